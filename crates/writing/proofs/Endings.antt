@@ -1,0 +1,42 @@
+-- How writing ends.
+use mathlib.Core.Path.{_≡_, refl, sym, ap, _∙_}
+use mathlib.Core.List.{List, [], _∷_, _++_}
+use Prim.Native.Nat.{ℕ, _<_, _≤_}
+use native.Mathlib.Omega.{arith}
+use lib.ListN.{length, take, drop}
+use lib.Dec.{ltb}
+use Rattle.std.specs.Options.{mapped}
+use Rattle.std.proofs.shelf.Lists.{take-at}
+use Rattle.std.proofs.shelf.Tests.{cond-true, cond-false, le-ltb, lt-ltb}
+use Rattle.std.specs.declared.option.Option.{Option}
+use Rattle.std.specs.declared.option.Option.the-variants.{Some, None}
+use Rattle.std.specs.declared.result.Result.the-variants.{Ok, Err}
+use Rattle.frames.specs.declared.plan.Plan.{Plan}
+use Rattle.frames.specs.declared.FrameFault.{FrameFault}
+use Rattle.frames.specs.Contents.{Content, bytesOf}
+use Rattle.frames.specs.Reading.{readAs}
+use Rattle.writing.specs.declared.WriteFault.{WriteFault}
+use Rattle.writing.specs.declared.WriteFault.the-variants as refused
+use Rattle.writing.specs.Written.{refusal, answer, buffer, Writes}
+
+module _ (p : Plan) (c : Content) (e : Option FrameFault) (out : List ℕ) where
+  refused-as : (w : WriteFault) → refusal out e ≡ Some w → Writes p c e out out (Err w)
+  refused-as w q = record { answered = sym (ap (λ z. answer z (bytesOf p c)) q); left = sym (ap (λ z. buffer z (bytesOf p c) out) q); back = tt }
+
+  pub short : length out < 1060 → Writes p c e out out (Err refused.Short)
+  short h = refused-as refused.Short (cond-true _ _ _ (lt-ltb (length out) 1060 h))
+
+  roomy : 1060 ≤ length out → refusal out e ≡ mapped refused.Frame e
+  roomy h = cond-false _ _ _ (le-ltb (length out) 1060 h)
+
+  pub faulty : (f : FrameFault) → 1060 ≤ length out → e ≡ Some f → Writes p c e out out (Err (refused.Frame f))
+  faulty f h q = refused-as (refused.Frame f) (roomy h ∙ ap (mapped refused.Frame) q)
+
+  pub done : (n : ℕ) (after : List ℕ) → 1060 ≤ length out → e ≡ None → n ≡ length (bytesOf p c) → after ≡ bytesOf p c ++ drop n out → readAs p (bytesOf p c) ≡ Ok c → Writes p c e out after (Ok n)
+  done n after h q k w r =
+      let none : refusal out e ≡ None = roomy h ∙ ap (mapped refused.Frame) q in
+      record {
+        answered = ap Ok k ∙ sym (ap (λ z. answer z (bytesOf p c)) none);
+        left = w ∙ ap (λ z. bytesOf p c ++ drop z out) k ∙ sym (ap (λ z. buffer z (bytesOf p c) out) none);
+        back = ap (readAs p) (ap (take n) w ∙ take-at (bytesOf p c) (drop n out) n (sym k)) ∙ r;
+      }
