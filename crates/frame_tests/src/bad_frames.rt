@@ -85,19 +85,35 @@ fn each_cause() -> Result<(), Fail> {
 fn changed(k: usize, v: u8) -> Option<FrameFault> {
     let fits = match k {
         // an order frame, eleven bytes long, or no kind
-        0 => return if v == 1 { at(11, Cause::Length) } else { at(0, Cause::Kind) },
+        0 => return if v == 1 {
+            at(11, Cause::Length)
+        } else {
+            at(0, Cause::Kind)
+        },
         1 => return at(1, Cause::Plan),
         // no box, or one that round 1 is not of
-        2 => return if v > 2 { at(2, Cause::Range) } else { at(3, Cause::Range) },
+        2 => return if v > 2 {
+            at(2, Cause::Range)
+        } else {
+            at(3, Cause::Range)
+        },
         3 => false,
         // rounds 1 + 65536v, 1 + 256v and v - 1 up to 999,999 that box 1 passes
         4 => v <= 15 && v % 3 == 0,
         5 => v % 3 == 0,
         6 => v % 3 == 2,
         7 => return at(7, Cause::Range),
-        8 => return if v == 0 { at(10, Cause::Length) } else { at(19, Cause::Length) },
+        8 => return if v == 0 {
+            at(10, Cause::Length)
+        } else {
+            at(19, Cause::Length)
+        },
         9 => return at(19, Cause::Length),
-        10 => return if v / 16 < 3 && v % 16 != 0 { None } else { at(10, Cause::Range) },
+        10 => return if v / 16 < 3 && v % 16 != 0 {
+            None
+        } else {
+            at(10, Cause::Range)
+        },
         _ => true,
     };
     if fits { None } else { at(3, Cause::Range) }

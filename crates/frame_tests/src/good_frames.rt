@@ -56,12 +56,32 @@ fn an_order() -> Result<(), Fail> {
 #[test]
 fn a_dummy_and_a_token() -> Result<(), Fail> {
     let three = plan(3, 1)?;
-    let Ok(Frame::Token { sender, stamp, votes, proposal, decided, decisions }) = read(&three, &DUMMY) else {
+    let Ok(
+        Frame::Token {
+            sender,
+            stamp,
+            votes,
+            proposal,
+            decided,
+            decisions,
+        },
+    ) = read(&three, &DUMMY)
+    else {
         return Err(Fail::new("no dummy"));
     };
     check(sender == 2 && stamp == 0 && votes == 0 && decided == 0)?;
     check(proposal.is_empty() && decisions.is_empty())?;
-    let Ok(Frame::Token { sender, stamp, votes, proposal, decided, decisions }) = read(&three, &TOKEN) else {
+    let Ok(
+        Frame::Token {
+            sender,
+            stamp,
+            votes,
+            proposal,
+            decided,
+            decisions,
+        },
+    ) = read(&three, &TOKEN)
+    else {
         return Err(Fail::new("no token"));
     };
     check(sender == 1 && stamp == 2 && votes == 1 && decided == 0 && decisions.is_empty())?;
@@ -71,7 +91,15 @@ fn a_dummy_and_a_token() -> Result<(), Fail> {
 #[test]
 fn decisions_in_turn() -> Result<(), Fail> {
     let three = plan(3, 1)?;
-    let Ok(Frame::Token { stamp, decided, decisions, .. }) = read(&three, &LONGER) else {
+    let Ok(
+        Frame::Token {
+            stamp,
+            decided,
+            decisions,
+            ..
+        },
+    ) = read(&three, &LONGER)
+    else {
         return Err(Fail::new("no token"));
     };
     check(stamp == 5 && decided == 2)?;
@@ -91,7 +119,10 @@ fn decisions_in_turn() -> Result<(), Fail> {
 
 /// The fifteen orders of each of seven boxes, by ascending id.
 fn all_orders() -> [Entry; 105] {
-    let mut entries = [Entry { id: 0, body: [9; 8] }; 105];
+    let mut entries = [Entry {
+        id: 0,
+        body: [9; 8],
+    }; 105];
     for i in 0..105 {
         entries[i].id = (16 * (i / 15) + i % 15 + 1) as u8;
     }
@@ -114,7 +145,14 @@ fn the_longest() -> Result<(), Fail> {
     out[1060] = 7;
     check(write_token(&seven, &draft, &mut out).ok() == Some(1060))?;
     check(out[9] == 105 && out[10] == 1 && out[11] == 0x01 && out[21] == 0x02 && out[1060] == 7)?;
-    let Ok(Frame::Token { decided, decisions, .. }) = read(&seven, &out[0..1060]) else {
+    let Ok(
+        Frame::Token {
+            decided,
+            decisions,
+            ..
+        },
+    ) = read(&seven, &out[0..1060])
+    else {
         return Err(Fail::new("no token"));
     };
     check(decided == 105)?;

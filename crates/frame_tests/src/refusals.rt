@@ -68,13 +68,71 @@ fn what_would_not_read_back() -> Result<(), Fail> {
     refuses(&plan, &Draft { sender: 3, ..good }, 2, Cause::Range)?;
     refuses(&plan, &Draft { stamp: 3, ..good }, 3, Cause::Range)?;
     refuses(&plan, &Draft { votes: 2, ..good }, 7, Cause::Range)?;
-    refuses(&plan, &Draft { stamp: 0, sender: 2, votes: 0, ..good }, 8, Cause::Range)?;
-    refuses(&plan, &Draft { proposal: &[entry(0x01), entry(0x01)], ..good }, 19, Cause::Ids)?;
-    refuses(&plan, &Draft { proposal: &[entry(0x02)], ..good }, 30, Cause::Ids)?;
-    refuses(&plan, &Draft { lengths: &[3, 0], ..good }, 38, Cause::Ids)?;
-    refuses(&plan, &Draft { lengths: &[0, 3], ..good }, 28, Cause::Range)?;
-    refuses(&plan, &Draft { lengths: &[1, 1], ..good }, 9, Cause::Length)?;
-    refuses(&plan, &Draft { lengths: &[0; 256], ..good }, 9, Cause::Range)?;
+    refuses(
+        &plan,
+        &Draft {
+            stamp: 0,
+            sender: 2,
+            votes: 0,
+            ..good
+        },
+        8,
+        Cause::Range,
+    )?;
+    refuses(
+        &plan,
+        &Draft {
+            proposal: &[entry(0x01), entry(0x01)],
+            ..good
+        },
+        19,
+        Cause::Ids,
+    )?;
+    refuses(
+        &plan,
+        &Draft {
+            proposal: &[entry(0x02)],
+            ..good
+        },
+        30,
+        Cause::Ids,
+    )?;
+    refuses(
+        &plan,
+        &Draft {
+            lengths: &[3, 0],
+            ..good
+        },
+        38,
+        Cause::Ids,
+    )?;
+    refuses(
+        &plan,
+        &Draft {
+            lengths: &[0, 3],
+            ..good
+        },
+        28,
+        Cause::Range,
+    )?;
+    refuses(
+        &plan,
+        &Draft {
+            lengths: &[1, 1],
+            ..good
+        },
+        9,
+        Cause::Length,
+    )?;
+    refuses(
+        &plan,
+        &Draft {
+            lengths: &[0; 256],
+            ..good
+        },
+        9,
+        Cause::Range,
+    )?;
     let mut out = [7; 1060];
     check(refused(write_token(&plan, &good, &mut out)) == (0, 57, None))
 }

@@ -1,7 +1,8 @@
 -- How writing ends.
 use mathlib.Core.Path.{_≡_, refl, sym, ap, _∙_}
 use mathlib.Core.List.{List, [], _∷_, _++_}
-use Prim.Native.Nat.{ℕ, _<_, _≤_}
+use Prim.Native.Nat.{ℕ, _+_, _*_, _<_, _≤_}
+use denote.Ref.{now}
 use native.Mathlib.Omega.{arith}
 use lib.ListN.{length, take, drop}
 use lib.Dec.{ltb}
@@ -13,10 +14,14 @@ use Rattle.std.specs.declared.option.Option.the-variants.{Some, None}
 use Rattle.std.specs.declared.result.Result.the-variants.{Ok, Err}
 use Rattle.frames.specs.declared.plan.Plan.{Plan}
 use Rattle.frames.specs.declared.FrameFault.{FrameFault}
-use Rattle.frames.specs.Contents.{Content, bytesOf}
+use Rattle.frames.specs.Contents.{Content, LawfulToken, bytesOf}
 use Rattle.frames.specs.Reading.{readAs}
 use Rattle.writing.specs.declared.WriteFault.{WriteFault}
 use Rattle.writing.specs.declared.WriteFault.the-variants as refused
+use Rattle.frames.specs.Contents.Content.{token}
+use Rattle.writing.specs.declared.Draft.{Draft}
+use Rattle.writing.specs.Parted.{drafted}
+use Rattle.writing.specs.Checked.{Shaped, Faultless, Sound}
 use Rattle.writing.specs.Written.{refusal, answer, buffer, Writes}
 
 module _ (p : Plan) (c : Content) (e : Option FrameFault) (out : List ℕ) where
@@ -40,3 +45,9 @@ module _ (p : Plan) (c : Content) (e : Option FrameFault) (out : List ℕ) where
         left = w ∙ ap (λ z. bytesOf p c ++ drop z out) k ∙ sym (ap (λ z. buffer z (bytesOf p c) out) none);
         back = ap (readAs p) (ap (take n) w ∙ take-at (bytesOf p c) (drop n out) n (sym k)) ∙ r;
       }
+
+pub sound : (p : Plan) (d : Draft) (r : Option FrameFault) → Shaped (length (now (d .proposal))) (now (d .lengths)) (length (now (d .entries))) →
+    Faultless r (LawfulToken p (drafted d)) → Faultless r (readAs p (bytesOf p (token (drafted d))) ≡ Ok (token (drafted d))) →
+    Faultless r (10 + 9 * length (now (d .proposal)) + (length (now (d .lengths)) + 9 * length (now (d .entries))) ≤ 1060) → Faultless r (Sound p d)
+sound p d None s l b m = record { shaped = s; lawful = l; back = b; room = m }
+sound p d (Some e) s l b m = tt

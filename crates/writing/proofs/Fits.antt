@@ -11,7 +11,7 @@ use Rattle.std.proofs.shelf.Sums.{sumBy-cons}
 use Rattle.std.specs.declared.result.Result.the-variants.{Ok}
 use Rattle.frames.specs.declared.plan.Plan.{Plan}
 use Rattle.frames.specs.declared.Entry.{Entry}
-use Rattle.frames.specs.Contents.{Token, Whole, entryBytes, decisionBytes, tokenBytes, planByte}
+use Rattle.frames.specs.Contents.{Token, Whole, LawfulToken, entryBytes, decisionBytes, tokenBytes, planByte}
 use Rattle.frames.specs.Contents.Content.{token}
 use Rattle.frames.specs.Reading.{readAs}
 use Rattle.frames.proofs.Written.{joined-length}
@@ -90,10 +90,13 @@ module _ (p : Plan) (sender stamp votes : ℕ) (proposal : List Entry) (lengths 
       let d = parted-length lengths entries v (s .adds-up) in
       omega arith
 
+  pub lawful : readAs p (tokenBytes p t) ≡ Ok (token t) → LawfulToken p t
+  lawful q = back p (tokenBytes p t) (token t) token-bytes q .1
+
   pub room : readAs p (tokenBytes p t) ≡ Ok (token t) → 10 + 9 * length proposal + (length lengths + 9 * length entries) ≤ 1060
   room q =
       let most = p .most in
-      let f = fits p (token t) (omega arith) (omega (arith, p .few)) (back p (tokenBytes p t) (token t) token-bytes q .1) .1 in
+      let f = fits p (token t) (omega arith) (omega (arith, p .few)) (lawful q) .1 in
       let n = token-long in
       omega arith
 

@@ -13,9 +13,13 @@ use Rattle.std.specs.declared.result.Result.the-variants.{Ok, Err}
 use Rattle.frames.specs.declared.plan.Plan.{Plan}
 use Rattle.frames.specs.declared.FrameFault.{FrameFault}
 use Rattle.frames.specs.declared.Cause.the-variants as cause
-use Rattle.frames.specs.Contents.{Content}
-use Rattle.frames.specs.Reading.{Rest, badRound, badVotes, badProposed, badDecided}
+use denote.Ref.{now}
+use Rattle.frames.specs.Contents.{Content, LawfulToken, bytesOf}
+use Rattle.frames.specs.Contents.Content.{token}
+use Rattle.frames.specs.Reading.{Rest, readAs, badRound, badVotes, badProposed, badDecided}
 use Rattle.reading.specs.Walking.{Marks}
+use Rattle.writing.specs.declared.Draft.{Draft}
+use Rattle.writing.specs.Parted.{drafted}
 use Rattle.writing.specs.Written.{fault}
 
 -- the place after what was walked, where reading goes on with what is left; or the fault
@@ -52,3 +56,10 @@ pub record Shaped (proposed : ℕ) (lengths : List ℕ) (entries : ℕ) : Type 0
   pub proposed-fits : proposed ≤ 255
   pub decided-fits : length lengths ≤ 255
   pub adds-up : sum lengths ≡ entries
+
+-- a draft without a fault: it has its shape, is lawful, reads back, and fits a frame's buffer
+pub record Sound (p : Plan) (d : Draft) : Type 0 where
+  pub shaped : Shaped (length (now (d .proposal))) (now (d .lengths)) (length (now (d .entries)))
+  pub lawful : LawfulToken p (drafted d)
+  pub back : readAs p (bytesOf p (token (drafted d))) ≡ Ok (token (drafted d))
+  pub room : 10 + 9 * length (now (d .proposal)) + (length (now (d .lengths)) + 9 * length (now (d .entries))) ≤ 1060

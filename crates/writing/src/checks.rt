@@ -3,7 +3,7 @@ ghost use mathlib.Core.List.{List, _++_};
 ghost use Prim.Native.Nat.{ℕ, _+_, _*_, _^_, _<_, _≤_};
 ghost use lib.ListN.{length};
 ghost use Rattle.std.specs.shelf.Lists.{joined, All, sum};
-ghost use Rattle.frames.specs.Contents.{Whole, entryBytes, decisionBytes, tokenBytes, bytesOf};
+ghost use Rattle.frames.specs.Contents.{Whole, LawfulToken, entryBytes, decisionBytes, tokenBytes, bytesOf};
 ghost use Rattle.frames.specs.Contents.Content.{order, token};
 ghost use Rattle.frames.specs.Reading.{entriesAs, decisionsAs, listsAs, readAs};
 ghost use Rattle.std.specs.declared.result.Result.the-variants.{Ok};
@@ -198,6 +198,7 @@ pub(crate) fn content_fault(
     requires { ⌜ Shaped (length (now proposal)) (now lengths) (length (now entries)) ⌝ }
     ensures value { λ r. ⌜ r ≡ contentFault (now (plan .entry)) (token (aToken sender stamp votes (now (proposal .entry)) (now (lengths .entry)) (now (entries .entry)))) ⌝ }
     ensures back { λ r. ⌜ Faultless r (readAs (now (plan .entry)) (tokenBytes (now (plan .entry)) (aToken sender stamp votes (now (proposal .entry)) (now (lengths .entry)) (now (entries .entry)))) ≡ Ok (token (aToken sender stamp votes (now (proposal .entry)) (now (lengths .entry)) (now (entries .entry))))) ⌝ }
+    ensures lawful { λ r. ⌜ Faultless r (LawfulToken (now (plan .entry)) (aToken sender stamp votes (now (proposal .entry)) (now (lengths .entry)) (now (entries .entry)))) ⌝ }
     ensures room { λ r. ⌜ Faultless r (10 + 9 * length (now (proposal .entry)) + (length (now (lengths .entry)) + 9 * length (now (entries .entry))) ≤ 1060) ⌝ }
 {
     if let Some(fault) = numbers_fault(plan, sender, stamp, votes, proposal.len(), lengths.len()) {

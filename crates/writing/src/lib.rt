@@ -2,6 +2,7 @@ ghost use mathlib.Core.Path.{_≡_};
 ghost use Rattle.frames.specs.Contents.Content.{order, token};
 ghost use Rattle.writing.specs.Parted.{drafted};
 ghost use Rattle.writing.specs.Written.{writeRow, contentFault, draftFault, Writes};
+ghost use Rattle.writing.specs.Checked.{Faultless, Sound};
 use frames::Entry;
 use frames::FrameFault;
 use frames::Plan;
@@ -66,9 +67,10 @@ pub fn write_order(plan: &Plan, entry: &Entry, out: &mut [u8]) -> Result<usize, 
     Ok(11)
 }
 
-/// Writes a token to the front of a buffer, and answers its length.
-pub fn write_token(plan: &Plan, draft: &Draft, out: &mut [u8]) -> Result<usize, WriteFault>
-    ensures { λ r. ⌜ Writes (now (plan .entry)) (token (drafted (now (draft .entry)))) (draftFault (now (plan .entry)) (now (draft .entry))) (now (out .entry)) (now (out .exit)) r ⌝ }
+/// The first fault of a draft: the place and the cause that its bytes would have.
+pub fn draft_fault(plan: &Plan, draft: &Draft) -> Option<FrameFault>
+    ensures value { λ r. ⌜ r ≡ draftFault (now (plan .entry)) (now (draft .entry)) ⌝ }
+    ensures sound { λ r. ⌜ Faultless r (Sound (now (plan .entry)) (now (draft .entry))) ⌝ }
 {
     let Draft {
         sender,
@@ -78,14 +80,29 @@ pub fn write_token(plan: &Plan, draft: &Draft, out: &mut [u8]) -> Result<usize, 
         lengths,
         entries,
     } = *draft;
+    if let Some(fault) = shape_fault(proposal.len(), lengths, entries.len()) {
+        return Some(fault);
+    }
+    content_fault(plan, sender, stamp, votes, proposal, lengths, entries)
+}
+
+/// Writes a token to the front of a buffer, and answers its length.
+pub fn write_token(plan: &Plan, draft: &Draft, out: &mut [u8]) -> Result<usize, WriteFault>
+    ensures { λ r. ⌜ Writes (now (plan .entry)) (token (drafted (now (draft .entry)))) (draftFault (now (plan .entry)) (now (draft .entry))) (now (out .entry)) (now (out .exit)) r ⌝ }
+{
     if out.len() < FRAME_MAX {
         return Err(WriteFault::Short);
     }
-    if let Some(fault) = shape_fault(proposal.len(), lengths, entries.len()) {
+    if let Some(fault) = draft_fault(plan, draft) {
         return Err(WriteFault::Frame(fault));
     }
-    if let Some(fault) = content_fault(plan, sender, stamp, votes, proposal, lengths, entries) {
-        return Err(WriteFault::Frame(fault));
-    }
+    let Draft {
+        sender,
+        stamp,
+        votes,
+        proposal,
+        lengths,
+        entries,
+    } = *draft;
     Ok(write_parts(out, plan, sender, stamp, votes, proposal, lengths, entries))
 }
