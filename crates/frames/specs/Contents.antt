@@ -4,7 +4,7 @@ use mathlib.Core.Logic.{_≢_}
 use mathlib.Core.Bool.{Bool, true, false, _||_}
 use mathlib.Core.List.{List, [], _∷_, _++_, map}
 use Prim.Native.Nat.{ℕ, _+_, _-_, _*_, _/_, _%_, _<_, _≤_}
-use lib.ListN.{length}
+use lib.ListN.{length, take, drop}
 use lib.Dec.{eqb}
 use Rattle.std.specs.shelf.Lists.{joined, All}
 use Rattle.frames.specs.declared.plan.Plan.{Plan}
@@ -41,6 +41,11 @@ abbrev pub tokenBytes : Plan → Token → List ℕ
 tokenBytes p t =
     (2 ∷ planByte p ∷ t .sender ∷ fourBytes (t .stamp)) ++ (t .votes ∷ length (t .proposal) ∷ length (t .decisions)
     ∷ joined entryBytes (t .proposal) ++ joined decisionBytes (t .decisions))
+
+-- entries cut into decisions of these lengths
+abbrev pub parted : List ℕ → List Entry → List (List Entry)
+parted [] es = []
+parted (c ∷ cs) es = take c es ∷ parted cs (drop c es)
 
 abbrev pub bytesOf : Plan → Content → List ℕ
 bytesOf p (order e) = 1 ∷ planByte p ∷ entryBytes e

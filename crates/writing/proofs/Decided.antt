@@ -16,9 +16,8 @@ use Rattle.frames.specs.declared.plan.Plan.{Plan}
 use Rattle.frames.specs.declared.Entry.{Entry}
 use Rattle.frames.specs.declared.FrameFault.{FrameFault}
 use Rattle.frames.specs.declared.Cause.the-variants as cause
-use Rattle.frames.specs.Contents.{Whole, entryBytes, decisionBytes}
+use Rattle.frames.specs.Contents.{Whole, entryBytes, decisionBytes, parted}
 use Rattle.frames.specs.Reading.{Rest, entriesAs, decisionsAs, andThen, faultAt}
-use Rattle.writing.specs.Parted.{parted}
 use Rattle.writing.proofs.Splits.{part-long}
 
 -- where reading stands before the decisions from j on, whose entries are those from `first` on, and what else follows

@@ -11,13 +11,13 @@ use Rattle.std.proofs.shelf.Sums.{sumBy-cons}
 use Rattle.std.specs.declared.result.Result.the-variants.{Ok}
 use Rattle.frames.specs.declared.plan.Plan.{Plan}
 use Rattle.frames.specs.declared.Entry.{Entry}
-use Rattle.frames.specs.Contents.{Token, Whole, LawfulToken, entryBytes, decisionBytes, tokenBytes, planByte}
+use Rattle.frames.specs.Contents.{Token, Whole, LawfulToken, entryBytes, decisionBytes, tokenBytes, planByte, parted}
 use Rattle.frames.specs.Contents.Content.{token}
 use Rattle.frames.specs.Reading.{readAs}
 use Rattle.frames.proofs.Written.{joined-length}
 use Rattle.frames.proofs.Room.{entries-bytes, fits}
 use Rattle.frames.proofs.Back.{Bytes, back}
-use Rattle.writing.specs.Parted.{parted, aToken}
+use Rattle.writing.specs.Parted.{aToken}
 use Rattle.writing.specs.Checked.{Shaped}
 use Rattle.writing.proofs.Splits.{parted-count}
 

@@ -11,13 +11,13 @@ use Rattle.std.specs.declared.result.Result.the-variants.{Ok, Err}
 use Rattle.frames.specs.declared.plan.Plan.{Plan}
 use Rattle.frames.specs.declared.Entry.{Entry}
 use Rattle.frames.specs.declared.FrameFault.{FrameFault}
-use Rattle.frames.specs.Contents.{Token, Whole, entryBytes, decisionBytes, tokenBytes}
+use Rattle.frames.specs.Contents.{Token, Whole, entryBytes, decisionBytes, tokenBytes, parted}
 use Rattle.frames.specs.Contents.Content.{token}
 use Rattle.frames.specs.Reading.{Rest, entriesAs, decisionsAs, andThen, ended, listsAs, tokenIn}
 use Rattle.frames.proofs.Steps.{through}
 use Rattle.frames.proofs.Written.{append-none, token-in}
 use Rattle.writing.specs.Checked.{Checked, Ended, Listed}
-use Rattle.writing.specs.Parted.{parted, aToken}
+use Rattle.writing.specs.Parted.{aToken}
 use Rattle.writing.proofs.Splits.{parted-count}
 
 pub whole-parts : (cs : List ℕ) (es : List Entry) → All Whole es → All (All Whole) (parted cs es)

@@ -1,15 +1,10 @@
--- Decisions kept as all their entries beside their lengths.
-use mathlib.Core.List.{List, [], _∷_}
+-- A token to be written, whose decisions are kept as all their entries beside their lengths.
+use mathlib.Core.List.{List}
 use Prim.Native.Nat.{ℕ}
-use lib.ListN.{take, drop}
 use denote.Ref.{now}
 use Rattle.frames.specs.declared.Entry.{Entry}
-use Rattle.frames.specs.Contents.{Token}
+use Rattle.frames.specs.Contents.{Token, parted}
 use Rattle.writing.specs.declared.Draft.{Draft}
-
-abbrev pub parted : List ℕ → List Entry → List (List Entry)
-parted [] es = []
-parted (c ∷ cs) es = take c es ∷ parted cs (drop c es)
 
 abbrev pub aToken : (sender stamp votes : ℕ) (proposal : List Entry) (lengths : List ℕ) (entries : List Entry) → Token
 aToken s r v p cs es = record { sender = s; stamp = r; votes = v; proposal = p; decisions = parted cs es }

@@ -3,8 +3,8 @@ ghost use mathlib.Core.List.{List, _++_};
 ghost use Prim.Native.Nat.{ℕ, _+_, _*_, _≤_};
 ghost use lib.ListN.{length, drop};
 ghost use Rattle.std.specs.shelf.Lists.{paste, joined, sum};
-ghost use Rattle.frames.specs.Contents.{entryBytes, decisionBytes, tokenBytes};
-ghost use Rattle.writing.specs.Parted.{parted, aToken};
+ghost use Rattle.frames.specs.Contents.{entryBytes, decisionBytes, tokenBytes, parted};
+ghost use Rattle.writing.specs.Parted.{aToken};
 use frames::Entry;
 use frames::Plan;
 

@@ -6,8 +6,7 @@ use lib.ListN.{length, take, drop, getD, length-set}
 use Rattle.std.specs.shelf.Lists.{paste, joined, sum}
 use Rattle.std.proofs.shelf.Lists.{take-all, length-append}
 use Rattle.std.proofs.shelf.Edits.{paste-none}
-use Rattle.frames.specs.Contents.{entryBytes, decisionBytes}
-use Rattle.writing.specs.Parted.{parted}
+use Rattle.frames.specs.Contents.{entryBytes, decisionBytes, parted}
 use Rattle.writing.proofs.Splits.{sum-next, part-length, turn}
 use Rattle.writing.proofs.bytes.write_decisions.Needs as need
 

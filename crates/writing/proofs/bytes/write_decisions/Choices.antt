@@ -2,8 +2,7 @@ use Prim.Native.Nat.{_+_, _*_}
 use mathlib.Core.Path.{_≡_}
 use lib.ListN.{length, take}
 use Rattle.std.specs.shelf.Lists.{paste, joined, sum}
-use Rattle.frames.specs.Contents.{decisionBytes}
-use Rattle.writing.specs.Parted.{parted}
+use Rattle.frames.specs.Contents.{decisionBytes, parted}
 use Rattle.writing.proofs.bytes.write_decisions.Given as given
 
 abbrev pub Inv-loop-i : given.InvT-loop-i

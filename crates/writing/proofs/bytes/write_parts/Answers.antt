@@ -5,8 +5,8 @@ use Prim.Native.Nat.{ℕ, suc, _+_, _-_, _*_, _<_, _≤_}
 use lib.ListN.{length, drop, getD}
 use Rattle.std.specs.shelf.Lists.{joined}
 use Rattle.std.proofs.shelf.Lists.{length-append}
-use Rattle.frames.specs.Contents.{entryBytes, decisionBytes, tokenBytes}
-use Rattle.writing.specs.Parted.{parted, aToken}
+use Rattle.frames.specs.Contents.{entryBytes, decisionBytes, tokenBytes, parted}
+use Rattle.writing.specs.Parted.{aToken}
 use Rattle.std.proofs.shelf.Parts.{putMid-paste}
 use Rattle.writing.proofs.Splits.{parted-count, three-parts}
 use Rattle.writing.proofs.bytes.write_parts.Needs as need

@@ -6,9 +6,8 @@ use lib.ListN.{length, getD, take, drop}
 use Rattle.std.specs.shelf.Lists.{joined, All, sum}
 use Rattle.std.proofs.shelf.Lists.{drop-all, take-all}
 use Rattle.std.proofs.shelf.Results.{err-from-errBy}
-use Rattle.frames.specs.Contents.{Whole, decisionBytes}
+use Rattle.frames.specs.Contents.{Whole, decisionBytes, parted}
 use Rattle.frames.specs.Reading.{decisionsAs}
-use Rattle.writing.specs.Parted.{parted}
 use Rattle.writing.proofs.Splits.{sum-next}
 use Rattle.writing.proofs.Walked.{all-of}
 use Rattle.writing.proofs.Decided.{ahead, none-there, fails-there, goes-on, whole-more}

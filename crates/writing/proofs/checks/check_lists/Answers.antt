@@ -4,8 +4,7 @@ use mathlib.Core.List.{[], _++_}
 use Prim.Native.Nat.{ℕ}
 use Rattle.std.proofs.shelf.Results.{err-from-errBy}
 use Rattle.std.specs.shelf.Lists.{joined}
-use Rattle.frames.specs.Contents.{decisionBytes}
-use Rattle.writing.specs.Parted.{parted}
+use Rattle.frames.specs.Contents.{decisionBytes, parted}
 use Rattle.reading.proofs.Whole.{none-marked}
 use Rattle.writing.proofs.Lists.{proposal-fails, lists-end, both-whole}
 use Rattle.writing.proofs.checks.check_lists.Needs as need
