@@ -6,9 +6,10 @@ use denote.Ref.{now}
 use native.Mathlib.Omega.{arith}
 use lib.ListN.{length, take, drop}
 use lib.Dec.{ltb}
-use Rattle.std.specs.Options.{mapped}
+use mathlib.Core.Bool.{true, false, not}
+use Rattle.std.specs.Options.{mapped, isSome}
 use Rattle.std.proofs.shelf.Lists.{take-at}
-use Rattle.std.proofs.shelf.Tests.{cond-true, cond-false, le-ltb, lt-ltb}
+use Rattle.std.proofs.shelf.Tests.{cond-true, cond-false, le-ltb, lt-ltb, eq-eqb, true≢false}
 use Rattle.std.specs.declared.option.Option.{Option}
 use Rattle.std.specs.declared.option.Option.the-variants.{Some, None}
 use Rattle.std.specs.declared.result.Result.the-variants.{Ok, Err}
@@ -21,8 +22,10 @@ use Rattle.writing.specs.declared.WriteFault.the-variants as refused
 use Rattle.frames.specs.Contents.Content.{token}
 use Rattle.writing.specs.declared.Draft.{Draft}
 use Rattle.writing.specs.Parted.{drafted}
-use Rattle.writing.specs.Checked.{Shaped, Faultless, Sound}
-use Rattle.writing.specs.Written.{refusal, answer, buffer, Writes}
+use Rattle.writing.specs.Checked.{Shaped, Faultless, Sound, LawfulDraft}
+use Rattle.writing.specs.Written.{refusal, answer, buffer, Writes, shapeFault, draftFault, contentFault, firstOf, faultOf}
+use Rattle.frames.proofs.Written.{written}
+use Rattle.std.specs.Orderings.{Decides}
 
 module _ (p : Plan) (c : Content) (e : Option FrameFault) (out : List ℕ) where
   refused-as : (w : WriteFault) → refusal out e ≡ Some w → Writes p c e out out (Err w)
@@ -51,3 +54,19 @@ pub sound : (p : Plan) (d : Draft) (r : Option FrameFault) → Shaped (length (n
     Faultless r (10 + 9 * length (now (d .proposal)) + (length (now (d .lengths)) + 9 * length (now (d .entries))) ≤ 1060) → Faultless r (Sound p d)
 sound p d None s l b m = record { shaped = s; lawful = l; back = b; room = m }
 sound p d (Some e) s l b m = tt
+
+-- a lawful draft has no fault
+pub faultless : (p : Plan) (d : Draft) → LawfulDraft p d → draftFault p d ≡ None
+faultless p d l =
+    let s = l .shape in
+    let shape : shapeFault (length (now (d .proposal))) (now (d .lengths)) (length (now (d .entries))) ≡ None =
+    cond-false _ _ _ (le-ltb 255 (length (now (d .proposal))) (s .proposed-fits)) ∙ cond-false _ _ _ (le-ltb 255 (length (now (d .lengths))) (s .decided-fits))
+    ∙ cond-true _ _ _ (eq-eqb _ _ (s .adds-up)) in
+    ap (λ z. firstOf z (contentFault p (token (drafted d)))) shape ∙ ap faultOf (written p (token (drafted d)) (l .token))
+
+pub decided : (p : Plan) (d : Draft) (r : Option FrameFault) → r ≡ draftFault p d → Faultless r (Sound p d) → Decides (not (isSome r)) (LawfulDraft p d)
+decided p d None q s = (λ _. record { shape = s .shaped; token = s .lawful }, λ _. refl)
+decided p d (Some e) q s = (λ z. absurd (true≢false (sym z)), λ l. absurd (apart (q ∙ faultless p d l)))
+  where
+    apart : Some e ≡ None → ⊥
+    apart z = let n : _≡_ {A = ℕ} 0 1 = cc in omega arith

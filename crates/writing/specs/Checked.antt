@@ -63,3 +63,8 @@ pub record Sound (p : Plan) (d : Draft) : Type 0 where
   pub lawful : LawfulToken p (drafted d)
   pub back : readAs p (bytesOf p (token (drafted d))) ≡ Ok (token (drafted d))
   pub room : 10 + 9 * length (now (d .proposal)) + (length (now (d .lengths)) + 9 * length (now (d .entries))) ≤ 1060
+
+-- a draft that has its shape and is a lawful token
+pub record LawfulDraft (p : Plan) (d : Draft) : Type 0 where
+  pub shape : Shaped (length (now (d .proposal))) (now (d .lengths)) (length (now (d .entries)))
+  pub token : LawfulToken p (drafted d)

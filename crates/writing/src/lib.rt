@@ -2,7 +2,8 @@ ghost use mathlib.Core.Path.{_≡_};
 ghost use Rattle.frames.specs.Contents.Content.{order, token};
 ghost use Rattle.writing.specs.Parted.{drafted};
 ghost use Rattle.writing.specs.Written.{writeRow, contentFault, draftFault, Writes};
-ghost use Rattle.writing.specs.Checked.{Faultless, Sound};
+ghost use Rattle.writing.specs.Checked.{Faultless, Sound, LawfulDraft};
+ghost use Rattle.std.specs.Orderings.{Decides};
 use frames::Entry;
 use frames::FrameFault;
 use frames::Plan;
@@ -84,6 +85,13 @@ pub fn draft_fault(plan: &Plan, draft: &Draft) -> Option<FrameFault>
         return Some(fault);
     }
     content_fault(plan, sender, stamp, votes, proposal, lengths, entries)
+}
+
+/// Whether a draft is a lawful token of the plan.
+pub fn is_lawful(plan: &Plan, draft: &Draft) -> bool
+    ensures { λ r. ⌜ Decides r (LawfulDraft (now (plan .entry)) (now (draft .entry))) ⌝ }
+{
+    draft_fault(plan, draft).is_none()
 }
 
 /// Writes a token to the front of a buffer, and answers its length.

@@ -1,0 +1,4 @@
+mod More
+mod Form
+mod Known
+mod Asked

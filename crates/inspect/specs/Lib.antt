@@ -1,0 +1,4 @@
+pub mod Form
+pub mod Telling
+pub mod Counting
+pub mod Means

@@ -1,0 +1,4 @@
+mod Steps
+mod Faults
+pub mod Back
+mod Worked
