@@ -1,0 +1,4 @@
+mod Places
+mod Frames
+mod Boxes
+mod Lined

@@ -1,0 +1,5 @@
+mod Products
+mod Keeping
+mod HeadRange
+mod HeadMotion
+mod DomeRange
