@@ -1,0 +1,11 @@
+pub mod Rounds
+pub mod Prefix
+pub mod Agreement
+pub mod Counts
+pub mod Repeats
+pub mod Sends
+pub mod Listed
+pub mod Growth
+pub mod Orders
+pub mod Worked
+pub mod Shortcuts

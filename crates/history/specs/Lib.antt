@@ -1,0 +1,6 @@
+pub mod Tokens
+pub mod Histories
+pub mod Laws
+pub mod Entries
+pub mod Worked
+pub mod Shortcuts
