@@ -1,0 +1,9 @@
+pub mod Mails
+pub mod Invariant
+pub mod Begin
+pub mod Steps
+pub mod Hand
+pub mod Unsplits
+pub mod Theorem
+pub mod Going
+pub mod Smooth

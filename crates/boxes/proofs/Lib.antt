@@ -1,0 +1,11 @@
+pub mod Ids
+pub mod Answering
+pub mod Parts
+pub mod Shapes
+pub mod Growing
+pub mod Making
+pub mod Staying
+pub mod Leaving
+pub mod Sending
+pub mod Refusing
+pub mod Meaning

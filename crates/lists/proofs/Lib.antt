@@ -1,0 +1,5 @@
+pub mod Fronts
+mod Inserts
+mod Stays
+pub mod Flags
+pub mod Holds

@@ -1,0 +1,3 @@
+mod Drafts
+mod Uses
+mod Rules
