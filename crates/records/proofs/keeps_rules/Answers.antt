@@ -16,11 +16,13 @@ pub returns-then-not-ids-keep : need.returns-then-not-ids-keep
 returns-then-not-ids-keep c = broken _ _ _ (λ t. true≢false (sym (t .ids) ∙ sym (c .ids-keep .ensures) ∙ c .if-not-ids-keep .taken))
 
 pub returns : need.returns
-returns c =
-    (λ h. rules _ _ _ (record {
-      numbers = sym (c .numbers-keep .ensures) ∙ c .if-not-numbers-keep .left;
-      tables = sym (c .tables-fit .ensures) ∙ c .if-not-tables-fit .left;
-      lists = c .lists-keep .ensures .0 (c .if-not-lists-keep .left);
-      ids = sym (c .ids-keep .ensures) ∙ c .if-not-ids-keep .left;
-      turn = c .turn-keeps .ensures .0 h;
-    }), λ k. c .turn-keeps .ensures .1 (tested _ _ _ k .turn))
+returns c = (
+  λ h. rules _ _ _ (record {
+    numbers = sym (c .numbers-keep .ensures) ∙ c .if-not-numbers-keep .left;
+    tables = sym (c .tables-fit .ensures) ∙ c .if-not-tables-fit .left;
+    lists = c .lists-keep .ensures .0 (c .if-not-lists-keep .left);
+    ids = sym (c .ids-keep .ensures) ∙ c .if-not-ids-keep .left;
+    turn = c .turn-keeps .ensures .0 h;
+  }),
+  λ k. c .turn-keeps .ensures .1 (tested _ _ _ k .turn),
+)
