@@ -1,4 +1,6 @@
+use crate::DUMMY;
 use crate::LONGER;
+use crate::ORDER;
 use crate::TOKEN;
 use frames::Cause;
 use frames::FrameFault;
@@ -79,6 +81,37 @@ fn each_cause() -> Result<(), Fail> {
         check(fault(&plan, &bytes) == at(place, cause))?;
     }
     Ok(())
+}
+
+#[test]
+fn dummies_and_orders() -> Result<(), Fail> {
+    let plan = three()?;
+    for k in 7..10 {
+        let mut bytes = DUMMY;
+        bytes[k] = 1;
+        check(fault(&plan, &bytes) == at(k, Cause::Range))?;
+    }
+    let mut early = DUMMY;
+    early[2] = 1;
+    check(fault(&plan, &early) == at(3, Cause::Range))?;
+    for id in [0x00, 0x10, 0x30, 0xFF] {
+        let mut bytes = ORDER;
+        bytes[2] = id;
+        check(fault(&plan, &bytes) == at(2, Cause::Range))?;
+    }
+    for k in 0..11 {
+        check(fault(&plan, &ORDER[0..k]) == at(k, Cause::Length))?;
+    }
+    Ok(())
+}
+
+#[test]
+fn two_votes_for_nothing() -> Result<(), Fail> {
+    let Ok(seven) = Plan::new(7, 2) else {
+        return Err(Fail::new("no plan"));
+    };
+    let bytes = [0x02, 0x72, 1, 0, 0, 0, 2, 2, 0, 0];
+    check(fault(&seven, &bytes) == at(8, Cause::Range))
 }
 
 /// What comes of byte `k` of the worked token being `v`.

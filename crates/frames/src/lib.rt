@@ -82,6 +82,16 @@ impl Plan {
         Ok(Plan { n, f })
     }
 
+    /// The same plan once more, for another seat of it.
+    pub fn again(&self) -> Plan
+        ensures { λ r. ⌜ r ≡ now (self .entry) ⌝ }
+    {
+        Plan {
+            n: self.boxes(),
+            f: self.tolerance(),
+        }
+    }
+
     /// How many boxes there are.
     pub fn boxes(&self) -> u8
         ensures { λ r. ⌜ r ≡ now (self .entry) .n ⌝ }

@@ -33,9 +33,9 @@ mod tests {
         }
     }
 
-    // Posts to each box in turn a frame of one byte, its number from 0; each post answers the row.
-    fn check_posts<L: Link>(link: &mut L, boxes: &[u8], row: u8) -> Result<(), Fail> {
-        let mut number: u8 = 0;
+    // Posts to each box in turn a frame of one byte, its number; each post answers the row.
+    fn check_posts<L: Link>(link: &mut L, first: u8, boxes: &[u8], row: u8) -> Result<(), Fail> {
+        let mut number = first;
         for to in boxes {
             check_eq(row_of(link.post(*to, &[number])), row)?;
             number = number.wrapping_add(1);
@@ -63,100 +63,57 @@ mod tests {
     #[test]
     fn tray_holds_24_for_all_boxes() -> Result<(), Fail> {
         let mut tray = Tray::new();
-        let boxes = [
-            0,
-            1,
-            2,
-            3,
-            4,
-            5,
-            6,
-            0,
-            1,
-            2,
-            3,
-            4,
-            5,
-            6,
-            0,
-            1,
-            2,
-            3,
-            4,
-            5,
-            6,
-            0,
-            1,
-            2,
-        ];
-        check_posts(&mut tray, &boxes, 0)?;
+        for first in [0, 7, 14] {
+            check_posts(&mut tray, first, &[0, 1, 2, 3, 4, 5, 6], 0)?;
+        }
+        check_posts(&mut tray, 21, &[0, 1, 2], 0)?;
         check(tray.is_full())?;
-        check_posts(&mut tray, &[0, 1, 2, 3, 4, 5, 6], 6)?;
+        for to in 0..7 {
+            check_length(&mut tray, to, 1060, LinkFault::Full)?;
+            check_length(&mut tray, to, 0, LinkFault::Full)?;
+        }
         check_waiting(&tray, 2, &[2, 9, 16, 23])?;
         check_eq(row_of(tray.remove(2, 1)), 0)?;
         check(!tray.is_full())?;
         check_waiting(&tray, 2, &[2, 16, 23])?;
         check_waiting(&tray, 3, &[3, 10, 17])?;
-        check_posts(&mut tray, &[3], 0)?;
+        check_posts(&mut tray, 0, &[3], 0)?;
         check_waiting(&tray, 3, &[3, 10, 17, 0])?;
-        check_posts(&mut tray, &[3, 4], 6)
+        check_posts(&mut tray, 0, &[3, 4], 6)
     }
 
     #[test]
     fn lines_hold_four_for_each_box() -> Result<(), Fail> {
         let mut lines = Lines::new();
-        check_posts(&mut lines, &[3, 3, 4, 3, 4, 3], 0)?;
+        check_posts(&mut lines, 0, &[3, 3, 4, 3, 4, 3], 0)?;
         check(lines.is_full(3))?;
         check(!lines.is_full(4))?;
-        check_posts(&mut lines, &[3, 3], 6)?;
+        check_posts(&mut lines, 0, &[3, 3], 6)?;
         check_waiting(&lines, 4, &[2, 4])?;
         check_eq(row_of(lines.remove(3, 1)), 0)?;
         check(!lines.is_full(3))?;
         check_waiting(&lines, 3, &[0, 3, 5])?;
-        check_posts(&mut lines, &[3, 0, 1, 2, 4, 5, 6], 0)?;
+        check_posts(&mut lines, 0, &[3, 0, 1, 2, 4, 5, 6], 0)?;
         check_waiting(&lines, 3, &[0, 3, 5, 0])?;
-        check_posts(&mut lines, &[3], 6)
+        check_posts(&mut lines, 0, &[3], 6)
     }
 
     #[test]
     fn bridge_is_full_on_one_side() -> Result<(), Fail> {
         let mut bridge = Bridge::new(2, Lines::new(), Tray::new());
-        let boxes = [
-            2,
-            3,
-            4,
-            5,
-            6,
-            2,
-            3,
-            4,
-            5,
-            6,
-            2,
-            3,
-            4,
-            5,
-            6,
-            2,
-            3,
-            4,
-            5,
-            6,
-            2,
-            3,
-            4,
-            5,
-        ];
-        check_posts(&mut bridge, &boxes, 0)?;
-        check_posts(&mut bridge, &[2, 3, 4, 5, 6], 6)?;
-        check_posts(&mut bridge, &[1, 1, 1, 1, 0], 0)?;
-        check_posts(&mut bridge, &[1], 6)?;
+        for first in [0, 5, 10, 15] {
+            check_posts(&mut bridge, first, &[2, 3, 4, 5, 6], 0)?;
+        }
+        check_posts(&mut bridge, 20, &[2, 3, 4, 5], 0)?;
+        check_posts(&mut bridge, 0, &[2, 3, 4, 5, 6], 6)?;
+        check_posts(&mut bridge, 0, &[1, 1, 1, 1, 0], 0)?;
+        check_posts(&mut bridge, 0, &[1], 6)?;
         check_waiting(&bridge, 6, &[4, 9, 14, 19])?;
         check_eq(row_of(bridge.remove(6, 2)), 0)?;
         check_waiting(&bridge, 6, &[4, 9, 19])?;
-        check_posts(&mut bridge, &[1], 6)?;
-        check_posts(&mut bridge, &[2, 0], 0)?;
-        check_posts(&mut bridge, &[2, 3, 4, 5, 6, 1], 6)?;
+        check_posts(&mut bridge, 0, &[1], 6)?;
+        check_posts(&mut bridge, 0, &[2, 0], 0)?;
+        check_posts(&mut bridge, 0, &[2, 3, 4, 5, 6, 1], 6)?;
         check_waiting(&bridge, 0, &[4, 1])
     }
 
@@ -172,12 +129,16 @@ mod tests {
         check(link.post(to, &bytes[0..len]) == Err(fault))
     }
 
-    // The refusals of a link on which nothing waits for box 6, the topmost where several fit.
-    fn check_refusals<L: Link>(link: &mut L) -> Result<(), Fail> {
+    // A copy is refused for the topmost reason that fits, on a link on which nothing waits for box 6.
+    fn check_refused_copies<L: Link>(link: &L) -> Result<(), Fail> {
         let mut out = [0; 1060];
         check(link.copy(7, 0, &mut out[0..1059]) == Err(LinkFault::Short))?;
         check(link.copy(7, 0, &mut out) == Err(LinkFault::Box))?;
-        check(link.copy(6, 0, &mut out) == Err(LinkFault::Place))?;
+        check(link.copy(6, 0, &mut out) == Err(LinkFault::Place))
+    }
+
+    // So are the other calls.
+    fn check_refusals<L: Link>(link: &mut L) -> Result<(), Fail> {
         check_eq(row_of(link.remove(7, 0)), 3)?;
         check_eq(row_of(link.remove(6, 0)), 5)?;
         check(link.count(7) == Err(LinkFault::Box))?;
@@ -215,6 +176,7 @@ mod tests {
     }
 
     fn check_link<L: Link>(link: &mut L) -> Result<(), Fail> {
+        check_refused_copies(link)?;
         check_refusals(link)?;
         check_copies(link)?;
         check_longest(link)
@@ -233,7 +195,7 @@ mod tests {
     #[test]
     fn full_comes_before_length() -> Result<(), Fail> {
         let mut lines = Lines::new();
-        check_posts(&mut lines, &[6, 6, 6, 6], 0)?;
+        check_posts(&mut lines, 0, &[6, 6, 6, 6], 0)?;
         check_length(&mut lines, 6, 0, LinkFault::Full)?;
         check_length(&mut lines, 6, 1061, LinkFault::Full)?;
         check_length(&mut lines, 5, 1061, TOO_LONG)?;
