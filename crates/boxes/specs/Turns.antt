@@ -10,16 +10,12 @@ use Rattle.std.specs.declared.option.Option.the-variants.{Some, None}
 use Rattle.frames.specs.declared.plan.Plan.{Plan}
 use Rattle.frames.specs.declared.Entry.{Entry}
 use Rattle.frames.specs.Contents.{Token, has}
+pub use Rattle.lists.specs.Tables.{inserted}
 use Rattle.boxes.specs.Boxes.{Turn, Box, logIds}
 
 -- The entries that are not in the log.
 abbrev pub left : List (List Entry) → List Entry → List Entry
 left log xs = kept-by (λ (e : Entry). not (has (e .id) (logIds log))) xs
-
--- An entry put into its place in a list of ascending ids.
-abbrev pub inserted : Entry → List Entry → List Entry
-inserted e [] = e ∷ []
-inserted e (x ∷ xs) = cond (ltb (e .id) (x .id)) (e ∷ x ∷ xs) (x ∷ inserted e xs)
 
 -- One more entry is unordered, and the last serial is this.
 abbrev pub holding : Box → Entry → ℕ → Box

@@ -4,7 +4,7 @@ use mathlib.Core.Logic.{_≢_}
 use mathlib.Core.Bool.{Bool, true, false, _||_}
 use mathlib.Core.List.{List, [], _∷_, _++_, map}
 use Prim.Native.Nat.{ℕ, _+_, _-_, _*_, _/_, _%_, _<_, _≤_}
-use lib.ListN.{length, take, drop}
+use lib.ListN.{length, getD, take, drop}
 use lib.Dec.{eqb}
 use Rattle.std.specs.shelf.Lists.{joined, All}
 use Rattle.frames.specs.declared.plan.Plan.{Plan}
@@ -21,6 +21,10 @@ pub record Token : Type 0 where
 pub data Content : Type 0 where
   order : Entry → Content
   token : Token → Content
+
+-- no frame of a plan is longer
+abbrev pub frameMost : ℕ
+frameMost = 1060
 
 -- Writing
 
@@ -56,6 +60,10 @@ bytesOf p (token t) = tokenBytes p t
 abbrev pub has : ℕ → List ℕ → Bool
 has i [] = false
 has i (j ∷ js) = eqb i j || has i js
+
+-- a flag for each byte: whether it is among these ids
+abbrev pub Marks : List Bool → List ℕ → Type 0
+Marks flags ids = (i : ℕ) → i < 256 → getD flags i false ≡ has i ids
 
 abbrev pub idsOf : List Entry → List ℕ
 idsOf = map (λ (e : Entry). e .id)

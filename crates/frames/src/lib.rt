@@ -24,6 +24,12 @@ pub struct Entry {
     pub body: [u8; 8],
 }
 
+/// The longest frame: a head of ten bytes, and ten for each of fifteen orders of seven boxes, each in a decision of its own.
+pub const FRAME_MAX: usize = 1060;
+
+/// The most boxes that a plan has.
+pub const BOXES_MAX: usize = 7;
+
 /// The refusal that carries a frame's fault, in every layer.
 const FRAME_ROW: u8 = 9;
 

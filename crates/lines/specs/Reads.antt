@@ -10,7 +10,7 @@ use Rattle.std.specs.declared.result.Result.{Result}
 use Rattle.std.specs.declared.result.Result.the-variants.{Ok, Err}
 use Rattle.frames.specs.declared.FrameFault.{FrameFault}
 use Rattle.frames.specs.declared.plan.Plan.{Plan}
-use Rattle.frames.specs.Contents.{Content}
+use Rattle.frames.specs.Contents.{Content, frameMost}
 use Rattle.frames.specs.Reading.{readAs}
 use Rattle.lines.specs.declared.LineFault.{LineFault}
 use Rattle.lines.specs.declared.LineFault.the-variants as fault
@@ -18,7 +18,7 @@ use Rattle.lines.specs.Digits.{digitsEnd, bytesIn}
 
 -- no frame is longer
 abbrev pub frameRoom : ℕ
-frameRoom = 1060
+frameRoom = frameMost
 
 abbrev pub lineRoom : ℕ
 lineRoom = 2 * frameRoom

@@ -10,13 +10,14 @@ ghost use Rattle.lines.specs.Calls.{frameFault, writeFault, bytesFault, readFa
 ghost use Rattle.lines.specs.Tested.{Framed, Writable, Readable, FrameReadable};
 ghost use Rattle.lines.specs.Laws.{Line-reads-back, Line-writes-back, One-line, Contents-have-line, One-line-for-contents};
 ghost use Rattle.lines.specs.Examples.{Worked-lines};
+use frames::FRAME_MAX;
 use frames::FrameFault;
 use frames::FrameFaultPartialEq;
 use frames::Plan;
 use reading::read;
 
 /// The bytes of the longest frame.
-pub const FRAME_ROOM: usize = 1060;
+pub const FRAME_ROOM: usize = FRAME_MAX;
 
 /// The characters of the longest frame's line.
 pub const LINE_ROOM: usize = 2 * FRAME_ROOM;

@@ -5,10 +5,11 @@ use mathlib.Core.List.{List, []}
 use Prim.Native.Nat.{ℕ, _<_, _≤_}
 use lib.ListN.{length}
 use Rattle.std.specs.shelf.Lists.{All}
+use Rattle.frames.specs.Contents.{frameMost}
 
 -- the longest frame, in bytes
 abbrev pub longest : ℕ
-longest = 1060
+longest = frameMost
 
 -- a link has the boxes below this number
 abbrev pub boxes : ℕ

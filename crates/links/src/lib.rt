@@ -2,6 +2,8 @@
 ghost use mathlib.Core.Path.{_≡_};
 ghost use Rattle.links.specs.Rows.{linkRow};
 ghost use Rattle.links.specs.Laws.{Topmost-answered};
+use frames::BOXES_MAX;
+use frames::FRAME_MAX;
 use frames::FrameFault;
 use frames::FrameFaultPartialEq;
 
@@ -13,10 +15,10 @@ pub use bridge::BridgeLink;
 pub use link::Link;
 
 /// The longest frame, in bytes.
-pub const LONGEST: usize = 1060;
+pub const LONGEST: usize = FRAME_MAX;
 
 /// A link has the boxes 0 to 6.
-pub const BOXES: usize = 7;
+pub const BOXES: usize = BOXES_MAX;
 
 /// Why a link refuses a call. Of several reasons the topmost here is answered.
 #[derive(Clone, Copy, PartialEq)]

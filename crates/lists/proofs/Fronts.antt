@@ -6,7 +6,7 @@ use native.Mathlib.Omega.{arith}
 use lib.ListN.{length, take, drop, getD}
 use Rattle.std.proofs.shelf.Lists.{getD-append-left, length-append, take-append-drop}
 use Rattle.frames.specs.declared.Entry.{Entry}
-use Rattle.lists.specs.Begins.{Begins}
+use Rattle.history.specs.Histories.{Begins}
 
 pub begins-at : {X : Type 0} (xs ys : List X) (i : ℕ) (d : X) → i < length xs → Begins xs ys → getD xs i d ≡ getD ys i d
 begins-at xs ys i d h b = sym (getD-append-left xs (b .0) d i h) ∙ ap (λ l. getD l i d) (sym (b .1))

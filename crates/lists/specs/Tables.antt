@@ -8,6 +8,7 @@ use lib.Dec.{leb, ltb}
 use Rattle.std.specs.shelf.Lists.{All, kept-by}
 use Rattle.frames.specs.declared.Entry.{Entry}
 use Rattle.frames.specs.Contents.{has, idsOf, Ascend}
+pub use Rattle.frames.specs.Contents.{Marks}
 use Rattle.lists.specs.declared.Entries.{Entries}
 
 -- how many entries a table can hold
@@ -61,10 +62,6 @@ KeepsAscending es es′ = (last : ℕ) → Ascend last (idsOf es) → Ascend las
 -- the ids that are held are those held before which are not flagged
 abbrev pub Unflagged : List Bool → List Entry → List Entry → Type 0
 Unflagged flags es es′ = (i : ℕ) → has i (idsOf es′) ≡ (not (getD flags i false) && has i (idsOf es))
-
--- the flags of just these ids
-abbrev pub Marks : List Bool → List ℕ → Type 0
-Marks flags ids = (i : ℕ) → i < 256 → getD flags i false ≡ has i ids
 
 -- with the flags of some ids, the entries of other ids stay
 abbrev pub LeavesMarked : List Bool → List Entry → List Entry → Type 0

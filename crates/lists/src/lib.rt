@@ -6,7 +6,7 @@ ghost use lib.ListN.{length, take, drop};
 ghost use lib.Dec.{eqb, leb, ltb};
 ghost use Rattle.std.specs.Orderings.{Decides};
 ghost use Rattle.frames.specs.Contents.{has, idsOf};
-ghost use Rattle.lists.specs.Begins.{Begins};
+ghost use Rattle.history.specs.Histories.{Begins};
 ghost use Rattle.lists.specs.Tables.{room, held, holding, empty, inserted, withEntry, withPart, without, staying, AscendsStill, KeepsAscending, Unflagged, Marks, LeavesMarked};
 
 mod exact;

@@ -10,7 +10,7 @@ use Rattle.std.specs.declared.option.Option.the-variants.{Some}
 use Rattle.std.proofs.shelf.Lists.{append-assoc, map-append, nil-from-length, take-append-le, drop-append-le, length-drop, length-take-le, take-append-drop, drop-drop}
 use Rattle.std.proofs.shelf.Sums.{sumBy-cons, sumBy-more}
 use Rattle.frames.specs.declared.Entry.{Entry}
-use Rattle.lists.specs.Begins.{Begins}
+use Rattle.history.specs.Histories.{Begins}
 use Rattle.frames.specs.Contents.{parted}
 
 sum-cons : (c : ℕ) (cs : List ℕ) → sum (c ∷ cs) ≡ c + sum cs

@@ -9,7 +9,7 @@ use Rattle.std.specs.declared.option.Option.{Option}
 use Rattle.std.specs.declared.option.Option.the-variants.{Some, None}
 use Rattle.frames.specs.declared.Entry.{Entry}
 use Rattle.frames.specs.Contents.{parted}
-use Rattle.lists.specs.Begins.{Begins}
+use Rattle.history.specs.Histories.{Begins}
 use Rattle.lists.specs.Tables.{room, held, withPart, empty}
 use Rattle.logs.specs.declared.Log.{Log}
 

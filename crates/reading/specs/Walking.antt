@@ -11,12 +11,8 @@ use Rattle.std.specs.declared.option.Option.{Option}
 use Rattle.std.specs.declared.option.Option.the-variants.{Some, None}
 use Rattle.frames.specs.declared.FrameFault.{FrameFault}
 use Rattle.frames.specs.declared.plan.Plan.{Plan}
-use Rattle.frames.specs.Contents.{has}
+pub use Rattle.frames.specs.Contents.{Marks}
 use Rattle.frames.specs.Reading.{Rest, readAs, orderAs, listsAs, tokenAs}
-
--- a flag for each id: whether it was met
-abbrev pub Marks : List Bool → List ℕ → Type 0
-Marks table met = (i : ℕ) → i < 256 → getD table i false ≡ has i met
 
 -- the answer and the flags of a function that reads a part of a frame
 abbrev pub Walked : Result Rest FrameFault → Result ℕ FrameFault → List Bool → Type 0

@@ -15,7 +15,7 @@ use Rattle.frames.specs.declared.plan.Plan.{Plan}
 use Rattle.frames.specs.declared.FrameFault.{FrameFault}
 use Rattle.frames.specs.declared.Cause.{Cause}
 use Rattle.frames.specs.declared.Cause.the-variants as cause
-use Rattle.frames.specs.Contents.{Content, Token, bytesOf}
+use Rattle.frames.specs.Contents.{Content, Token, frameMost, bytesOf}
 use Rattle.frames.specs.Contents.Content.{token}
 use Rattle.frames.specs.Reading.{readAs}
 use Rattle.frames.specs.Rows.{frameRow}
@@ -57,7 +57,7 @@ draftFault p d = firstOf (shapeFault (length (now (d .proposal))) (now (d .lengt
 
 -- a frame's buffer has 1,060 bytes at least
 abbrev pub refusal : List ℕ → Option FrameFault → Option WriteFault
-refusal out e = cond (ltb (length out) 1060) (Some refused.Short) (mapped refused.Frame e)
+refusal out e = cond (ltb (length out) frameMost) (Some refused.Short) (mapped refused.Frame e)
 
 abbrev pub answer : Option WriteFault → List ℕ → Result ℕ WriteFault
 answer None bs = Ok (length bs)

@@ -5,6 +5,7 @@ ghost use Rattle.writing.specs.Written.{writeRow, contentFault, draftFault, Wr
 ghost use Rattle.writing.specs.Checked.{Faultless, Sound, LawfulDraft};
 ghost use Rattle.std.specs.Orderings.{Decides};
 use frames::Entry;
+use frames::FRAME_MAX;
 use frames::FrameFault;
 use frames::Plan;
 
@@ -16,9 +17,6 @@ use bytes::write_parts;
 use checks::content_fault;
 use checks::order_fault;
 use checks::shape_fault;
-
-/// The longest frame: ten bytes of a head, and ten for each of 105 orders in decisions of their own.
-pub const FRAME_MAX: usize = 1060;
 
 /// Why contents were not written.
 #[derive(Clone, Copy)]
