@@ -1,3 +1,3 @@
-mod Drafts
+pub mod Drafts
 mod Uses
-mod Rules
+pub mod Rules

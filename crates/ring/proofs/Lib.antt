@@ -1,1 +1,1 @@
-mod Staying
+pub mod Staying

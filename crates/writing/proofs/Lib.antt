@@ -4,5 +4,5 @@ mod Walked
 mod Decided
 mod Lists
 mod Heads
-mod Endings
-mod Fits
+pub mod Endings
+pub mod Fits
