@@ -1,3 +1,5 @@
+#![tactic(auto)]
+
 ghost use Rattle.std.specs.Prelude.{◌≡◌};
 ghost use Rattle.agreement.specs.Rows.{array_row};
 ghost use Rattle.agreement.specs.Worked.{Worked, PostsCounted};

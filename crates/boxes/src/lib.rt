@@ -1,3 +1,5 @@
+#![tactic(auto)]
+
 ghost use Rattle.std.specs.Prelude.{◌≡◌};
 ghost use Rattle.boxes.specs.Laws.{AnswersFit, ListsAsToken, TestsDecide, LogsGrow, TurnsMakeTokens, RecordsStay, UnorderedStay, FramesRead, RefusalsStay, MeantFor};
 ghost use Rattle.boxes.specs.Rows.{box_row};

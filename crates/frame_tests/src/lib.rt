@@ -1,3 +1,5 @@
+#![tactic(auto)]
+
 /// The frames of an array of three boxes of which one may fail, worked by hand.
 pub const DUMMY: [u8; 10] = [0x02, 0x31, 0x02, 0, 0, 0, 0, 0, 0, 0];
 

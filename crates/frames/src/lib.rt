@@ -1,3 +1,5 @@
+#![tactic(auto)]
+
 ghost use Rattle.std.specs.Prelude.{◌≡◌, ◌+◌, ◌*◌, ◌/◌, ◌%◌, ◌<◌};
 ghost use Rattle.frames.specs.Contents.{plan_byte};
 ghost use Rattle.frames.specs.Examples.{Worked, WorkedPlans};

@@ -1,3 +1,5 @@
+#![tactic(auto)]
+
 ghost use Rattle.history.specs.Entries.{OrdersAgree, OrdersGrow, FramesFit};
 ghost use Rattle.history.specs.Laws.{HistoriesAgree, NoIdTwice, NothingInvented, HistoriesGrow};
 ghost use Rattle.history.specs.Shortcuts.{ShortcutsFail};

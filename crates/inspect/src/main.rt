@@ -1,3 +1,5 @@
+#![tactic(auto)]
+
 // Tells in words what frames hold: for each text line of standard input, which is a plan byte in two digits, a space and
 // a frame's line, the frame's parts or the fault, and at the end how many frames and faults there were.
 ghost use Rattle.std.specs.Prelude.{IfOk, string_bytes};

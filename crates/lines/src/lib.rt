@@ -1,3 +1,5 @@
+#![tactic(auto)]
+
 ghost use Rattle.std.specs.Prelude.{◌≡◌, ◌+◌, ◌*◌, ◌/◌, ◌<◌, ◌≤◌, ◌++◌, length, take, drop};
 ghost use Rattle.frames.specs.Reading.{read_as};
 ghost use Rattle.lines.specs.Digits.{digit_of, digit_value, value_of, two_digits, line_of, bytes_in, digits_end};

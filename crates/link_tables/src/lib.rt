@@ -1,5 +1,7 @@
 //! Two links in fixed tables: a tray for all boxes, and a line to each.
 
+#![tactic(auto)]
+
 mod checks;
 mod held;
 mod lines;

@@ -1,5 +1,7 @@
 //! The links, worked by hand.
 
+#![tactic(auto)]
+
 #[cfg(test)]
 mod tests {
     use frames::{Cause, FrameFault};

@@ -1,4 +1,7 @@
 //! What a link is, and a link over two others.
+
+#![tactic(auto)]
+
 ghost use Rattle.std.specs.Prelude.{◌≡◌};
 ghost use Rattle.links.specs.Rows.{link_row};
 ghost use Rattle.links.specs.Laws.{TopmostAnswered};

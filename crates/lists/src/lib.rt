@@ -1,3 +1,5 @@
+#![tactic(auto)]
+
 ghost use Rattle.std.specs.Prelude.{◌≡◌, ℕ, ◌+◌, ◌<◌, ◌≤◌, true, ◌||◌, [], ◌∷◌, ◌++◌, length, take, drop, if◌then◌else◌, Decides, ◌==◌, nat_le, nat_lt};
 ghost use Rattle.frames.specs.Contents.{has, ids_of};
 ghost use Rattle.history.specs.Histories.{Begins};

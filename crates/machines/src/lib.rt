@@ -1,6 +1,8 @@
 //! Machines that carry out orders: what any machine is, and the two that we have, a mount's head
 //! and a dome.
 
+#![tactic(auto)]
+
 ghost use Rattle.std.specs.Prelude.{◌≡◌, ℕ, Bool, false, List};
 
 mod domes;

@@ -1,3 +1,5 @@
+#![tactic(auto)]
+
 ghost use Rattle.std.specs.Prelude.{◌≡◌, ℕ, ◌+◌, ◌*◌, ◌/◌, ◌<◌, ◌≤◌, List, ◌∷◌, length, Some};
 ghost use Rattle.std.specs.List.{flat_map, AllByRecursion as All, slice_get};
 ghost use Rattle.std.specs.Option.{option_map};

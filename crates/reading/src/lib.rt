@@ -1,3 +1,5 @@
+#![tactic(auto)]
+
 ghost use Rattle.std.specs.Prelude.{◌≡◌, ℕ, ◌+◌, ◌-◌, ◌*◌, ◌<◌, ◌≤◌, List, length, Err};
 ghost use Rattle.frames.specs.Contents.{Content};
 ghost use Rattle.frames.specs.declared.Cause.TheVariants as cause;

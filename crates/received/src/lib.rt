@@ -1,4 +1,7 @@
 //! A frame taken out of its bytes, into tables like those of a box.
+
+#![tactic(auto)]
+
 ghost use Rattle.std.specs.Prelude.{◌≡◌};
 ghost use Rattle.frames.specs.Reading.{read_as};
 ghost use Rattle.received.specs.Received.{contents_in, HoldsLawful};

@@ -1,3 +1,5 @@
+#![tactic(auto)]
+
 ghost use Rattle.std.specs.Prelude.{◌≡◌, ℕ, ◌≤◌, true, ◌&&◌, Decides, nat_le};
 ghost use Rattle.frames.specs.Contents.{ids_of, LawfulToken};
 ghost use Rattle.lists.specs.Tables.{room, held};

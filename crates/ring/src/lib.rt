@@ -1,4 +1,7 @@
 //! A box by its types: a checked plan gives a seat, a seat can only be started, and only a started box is called.
+
+#![tactic(auto)]
+
 ghost use Rattle.std.specs.Prelude.{◌≡◌, ◌<◌, ◌≤◌, true, false, [], length, IfNone, if◌then◌else◌, nat_eq, nat_lt};
 ghost use Rattle.frames.specs.Contents.{LawfulEntry, LawfulToken, frame_most, token_bytes, bytes_of};
 ghost use Rattle.frames.specs.Contents.Content.{order};

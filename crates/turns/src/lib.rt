@@ -1,4 +1,7 @@
 //! Frames that a started box takes, and the turns that it opens and ends.
+
+#![tactic(auto)]
+
 mod changing;
 mod ending;
 mod judging;

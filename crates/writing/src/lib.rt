@@ -1,3 +1,5 @@
+#![tactic(auto)]
+
 ghost use Rattle.std.specs.Prelude.{◌≡◌, Decides};
 ghost use Rattle.frames.specs.Contents.Content.{order, token};
 ghost use Rattle.writing.specs.Parted.{drafted};
