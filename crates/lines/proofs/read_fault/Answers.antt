@@ -12,19 +12,19 @@ returns-in-Some c =
     let found = line_found c.args.plan.now c.args.line.now c.args.room c.in-Some.fault c.in-Some.ensures.fault in
     record { fault = found; tested = tt; alone = one_line_for; worked = worked }
 
-pub slice-bounds-frame-fault-end : goal.slice-bounds-frame-fault-end
-slice-bounds-frame-fault-end c = omega (arith, c.in-default.ensures.tested.0)
+pub slice-bounds-frame_fault-end : goal.slice-bounds-frame_fault-end
+slice-bounds-frame_fault-end c = omega (arith, c.in_default.ensures.tested.0)
 
 pub returns : goal.returns
 returns c =
     let p = c.args.plan.now in
     let cs = c.args.line.now in
     let n : length cs / 2 - 0 ≡ length cs / 2 = omega arith in
-    let bytes : take (length cs / 2 - 0) c.put-bytes.new.out ≡ bytes_in cs = ap (λ z. take z c.put-bytes.new.out) n ∙ c.put-bytes.ensures.front in
-    let found = c.frame-fault.ensures.fault ∙ ap (λ z. frame_fault (read_as p z)) bytes in
+    let bytes : take (length cs / 2 - 0) c.put_bytes.new.out ≡ bytes_in cs = ap (λ z. take z c.put_bytes.new.out) n ∙ c.put_bytes.ensures.front in
+    let found = c.frame_fault.ensures.fault ∙ ap (λ z. frame_fault (read_as p z)) bytes in
     record {
-      fault = frame_found p cs c.args.room c.frame-fault.result c.in-default.ensures.fault found;
-      tested = frame_readable p cs c.args.room c.frame-fault.result c.in-default.ensures.tested found;
+      fault = frame_found p cs c.args.room c.frame_fault.result c.in_default.ensures.fault found;
+      tested = frame_readable p cs c.args.room c.frame_fault.result c.in_default.ensures.tested found;
       alone = one_line_for;
       worked = worked;
     }

@@ -14,12 +14,12 @@ returns-in-None c =
     let e = none_past c.args.k c.loop-j.j c.loop-j.left.now _ c.loop-j-test.true (sym c.in-None.ensures.value) c.loop-j.invariant in
     record { value = e; decisions = λ ds w q. e ∙ ap (decision_at c.args.k) q ∙ decision_of ds c.args.k w }
 
-pub returns-in-Some-first-decision : goal.returns-in-Some-first-decision
-returns-in-Some-first-decision c =
-    let e = here c.args.k c.loop-j.j c.loop-j.left.now _ _ c.loop-j-test.false c.in-Some-first-decision.ensures.value c.loop-j.invariant in
+pub returns-in-Some-first_decision : goal.returns-in-Some-first_decision
+returns-in-Some-first_decision c =
+    let e = here c.args.k c.loop-j.j c.loop-j.left.now _ _ c.loop-j-test.false c.in-Some-first_decision.ensures.value c.loop-j.invariant in
     record { value = e; decisions = λ ds w q. e ∙ ap (decision_at c.args.k) q ∙ decision_of ds c.args.k w }
 
-pub returns-in-None-first-decision : goal.returns-in-None-first-decision
-returns-in-None-first-decision c =
-    let e = here c.args.k c.loop-j.j c.loop-j.left.now _ _ c.loop-j-test.false c.in-None-first-decision.ensures.value c.loop-j.invariant in
+pub returns-in-None-first_decision : goal.returns-in-None-first_decision
+returns-in-None-first_decision c =
+    let e = here c.args.k c.loop-j.j c.loop-j.left.now _ _ c.loop-j-test.false c.in-None-first_decision.ensures.value c.loop-j.invariant in
     record { value = e; decisions = λ ds w q. e ∙ ap (decision_at c.args.k) q ∙ decision_of ds c.args.k w }

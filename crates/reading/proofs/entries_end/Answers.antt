@@ -19,13 +19,13 @@ returns-then-bytes-at c = record {
       failed _ _ _ (sym left ∙ entries_short c.args.plan.now _ _ _ _ _ (sym c.if-bytes-at.true));
 }
 
-pub returns-then-out-of-range : goal.returns-then-out-of-range
-returns-then-out-of-range c = record {
+pub returns-then-out_of_range : goal.returns-then-out_of_range
+returns-then-out_of_range c = record {
   within = tt;
   walked = λ met m.
       let (seen, marks, same) = c.loop-k.invariant.2 met m in
       let left = entries_left c.args.plan.now _ _ _ _ _ c.loop-k-test.true same in
-      let bad : out_of_range c.args.plan.now (get_or c.args.bytes.now c.loop-k.at 0) ≡ true = sym c.out-of-range.ensures ∙ c.if-out-of-range.true in
+      let bad : out_of_range c.args.plan.now (get_or c.args.bytes.now c.loop-k.at 0) ≡ true = sym c.out_of_range.ensures ∙ c.if-out_of_range.true in
       failed _ _ _ (sym left ∙ entries_range c.args.plan.now _ _ _ _ _ (omega arith) bad);
 }
 
@@ -36,7 +36,7 @@ returns-then-id-last c = record {
       let (seen, marks, same) = c.loop-k.invariant.2 met m in
       let id = get_or c.args.bytes.now c.loop-k.at 0 in
       let left = entries_left c.args.plan.now _ _ _ _ _ c.loop-k-test.true same in
-      let good : out_of_range c.args.plan.now id ≡ false = sym c.out-of-range.ensures ∙ c.if-out-of-range.false in
+      let good : out_of_range c.args.plan.now id ≡ false = sym c.out_of_range.ensures ∙ c.if-out_of_range.false in
       let small : id < 256 = omega arith in
       let bad : (leb id c.loop-k.last || has id seen) ≡ true =
       elim c.then-id-last.branch [
@@ -53,7 +53,7 @@ returns-then-bytes-at-lt9 c = record {
       let (seen, marks, same) = c.loop-k.invariant.2 met m in
       let id = get_or c.args.bytes.now c.loop-k.at 0 in
       let left = entries_left c.args.plan.now _ _ _ _ _ c.loop-k-test.true same in
-      let good : out_of_range c.args.plan.now id ≡ false = sym c.out-of-range.ensures ∙ c.if-out-of-range.false in
+      let good : out_of_range c.args.plan.now id ≡ false = sym c.out_of_range.ensures ∙ c.if-out_of_range.false in
       let small : id < 256 = omega arith in
       let fresh : (leb id c.loop-k.last || has id seen) ≡ false = or_from _ _ (lt-leb _ _ c.if-id-last.false) (sym (marks id small) ∙ c.if-seen-id.false) in
       failed _ _ _ (sym left ∙ entries_early c.args.plan.now _ _ _ _ _ (omega arith) good fresh c.if-bytes-at-lt9.true);
@@ -62,7 +62,7 @@ returns-then-bytes-at-lt9 c = record {
 pub loop-k-preserved : goal.loop-k-preserved
 loop-k-preserved c =
     let id = get_or c.args.bytes.now c.loop-k.at 0 in
-    let good : out_of_range c.args.plan.now id ≡ false = sym c.out-of-range.ensures ∙ c.if-out-of-range.false in
+    let good : out_of_range c.args.plan.now id ≡ false = sym c.out_of_range.ensures ∙ c.if-out_of_range.false in
     let small : id < 256 = omega arith in (
       (omega arith, omega arith),
       simp length-set (omega arith),

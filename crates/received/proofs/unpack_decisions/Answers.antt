@@ -10,8 +10,8 @@ loop-split-smaller c = shorter c.loop-split.left.now c.in-Some.split.first.now _
 pub loop-split-preserved : goal.loop-split-preserved
 loop-split-preserved c ds g q =
     let told = c.append.ensures in
-    one-more ds c.loop-split.left.now c.in-Some.split.rest.now c.in-Some.split.first.now c.unpack-entries-decision.result c.loop-split.log c.append.new.self c.part.result.now c.append.result g
-    c.in-Some.ensures.value c.in-Some.ensures.split c.unpack-entries-decision.ensures c.part.ensures told.answer told.log told.meaning told.sound (c.loop-split.invariant ds g q)
+    one-more ds c.loop-split.left.now c.in-Some.split.rest.now c.in-Some.split.first.now c.unpack_entries-decision.result c.loop-split.log c.append.new.self c.part.result.now c.append.result g
+    c.in-Some.ensures.value c.in-Some.ensures.split c.unpack_entries-decision.ensures c.part.ensures told.answer told.log told.meaning told.sound (c.loop-split.invariant ds g q)
 
 pub returns : goal.returns
-returns c ds g q = at_end ds c.loop-split.left.now _ g c.in-default.ensures.split (c.loop-split.invariant ds g q)
+returns c ds g q = at_end ds c.loop-split.left.now _ g c.in_default.ensures.split (c.loop-split.invariant ds g q)

@@ -8,5 +8,5 @@ returns-then-row-gt999999 c = (λ h. absurd (true≢false (sym h)), λ l. let fi
 
 pub returns : goal.returns
 returns c =
-    by_draft c.args.plan.now _ c.args.turn.now.proposal c.args.row.now.log c.requires.1 c.requires.0 c.part.ensures c.decision-lengths.ensures.meaning c.part-2.ensures
-    _ _ (λ l. l) (λ l. l) c.is-lawful.ensures
+    by_draft c.args.plan.now _ c.args.turn.now.proposal c.args.row.now.log c.requires.1 c.requires.0 c.part.ensures c.decision_lengths.ensures.meaning c.part-2.ensures
+    _ _ (λ l. l) (λ l. l) c.is_lawful.ensures

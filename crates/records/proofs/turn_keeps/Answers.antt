@@ -4,13 +4,13 @@ use Rattle.records.proofs.Drafts.{fitting}
 use Rattle.records.proofs.Rules.{with_turn, without_turn}
 use Rattle.records.proofs.turn_keeps.Goals as goal
 
-pub open-keeps-requires : goal.open-keeps-requires
-open-keeps-requires c =
+pub open_keeps-requires : goal.open_keeps-requires
+open_keeps-requires c =
     let fits = fitting c.args.row.now c.requires in
     (fits.log, subst (λ z. turn_fits z ≡ true) c.in-Some.is fits.turn)
 
 pub returns-in-Some : goal.returns-in-Some
-returns-in-Some c = with_turn c.args.plan.now (box_of c.args.row.now) c.args.row.now.turn c.in-Some.turn c.open-keeps.result c.in-Some.is refl c.open-keeps.ensures
+returns-in-Some c = with_turn c.args.plan.now (box_of c.args.row.now) c.args.row.now.turn c.in-Some.turn c.open_keeps.result c.in-Some.is refl c.open_keeps.ensures
 
 pub returns-in-None : goal.returns-in-None
 returns-in-None c = (λ _. without_turn c.args.plan.now (box_of c.args.row.now) c.args.row.now.turn c.in-None.is refl, λ _. refl)

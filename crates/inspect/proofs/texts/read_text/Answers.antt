@@ -3,33 +3,33 @@ use Rattle.std.proofs.lemmas.Result.{err_from_is_err_and}
 use Rattle.inspect.proofs.Asked.{no_plan, bad-line, bad_frame, good_frame}
 use Rattle.inspect.proofs.texts.read_text.Goals as goal
 
-pub returns-in-err-plan : goal.returns-in-err-plan
-returns-in-err-plan c =
-    let e = err_from_is_err_and c.from-residual-in-err-plan.result c.from-residual-in-err-plan.ensures.1 in
-    let split = c.in-ok-split.split in
-    rw (e.1, e.2) (no_plan c.args.text.now split.line.now split.byte _ c.in-ok-split.ensures c.in-err-plan.ensures)
+pub returns-in_err-plan : goal.returns-in_err-plan
+returns-in_err-plan c =
+    let e = err_from_is_err_and c.from-residual-in_err-plan.result c.from-residual-in_err-plan.ensures.1 in
+    let split = c.in_ok-split.split in
+    rw (e.1, e.2) (no_plan c.args.text.now split.line.now split.byte _ c.in_ok-split.ensures c.in_err-plan.ensures)
 
-pub returns-in-err-n : goal.returns-in-err-n
-returns-in-err-n c =
-    let e = err_from_is_err_and c.from-residual-in-err-n.result c.from-residual-in-err-n.ensures.1 in
-    let split = c.in-ok-split.split in
+pub returns-in_err-n : goal.returns-in_err-n
+returns-in_err-n c =
+    let e = err_from_is_err_and c.from-residual-in_err-n.result c.from-residual-in_err-n.ensures.1 in
+    let split = c.in_ok-split.split in
     rw (e.1, e.2)
-    (bad-line c.args.text.now split.line.now split.byte c.in-ok-plan.plan c.in-ok-split.ensures c.in-ok-plan.ensures _ _ _ (omega arith) c.in-err-n.ensures.answer)
+    (bad-line c.args.text.now split.line.now split.byte c.in_ok-plan.plan c.in_ok-split.ensures c.in_ok-plan.ensures _ _ _ (omega arith) c.in_err-n.ensures.answer)
 
-pub returns-in-err-frame : goal.returns-in-err-frame
-returns-in-err-frame c =
-    let e = err_from_is_err_and c.from-residual-in-err-frame.result c.from-residual-in-err-frame.ensures.1 in
-    let split = c.in-ok-split.split in
-    let n = c.in-ok-n.n in
+pub returns-in_err-frame : goal.returns-in_err-frame
+returns-in_err-frame c =
+    let e = err_from_is_err_and c.from-residual-in_err-frame.result c.from-residual-in_err-frame.ensures.1 in
+    let split = c.in_ok-split.split in
+    let n = c.in_ok-n.n in
     let whole : n ≡ n - 0 = omega arith in
-    let line = c.in-ok-n.ensures.bytes.1 ∙ ap (λ z. Ok (take z c.line-bytes.new.out)) whole in
+    let line = c.in_ok-n.ensures.bytes.1 ∙ ap (λ z. Ok (take z c.line_bytes.new.out)) whole in
     rw (e.1, e.2)
-    (bad_frame c.args.text.now split.line.now split.byte c.in-ok-plan.plan c.in-ok-split.ensures c.in-ok-plan.ensures _ line _ c.in-err-frame.ensures.answer)
+    (bad_frame c.args.text.now split.line.now split.byte c.in_ok-plan.plan c.in_ok-split.ensures c.in_ok-plan.ensures _ line _ c.in_err-frame.ensures.answer)
 
 pub returns : goal.returns
 returns c =
-    let split = c.in-ok-split.split in
-    let n = c.in-ok-n.n in
+    let split = c.in_ok-split.split in
+    let n = c.in_ok-n.n in
     let whole : n ≡ n - 0 = omega arith in
-    let line = c.in-ok-n.ensures.bytes.1 ∙ ap (λ z. Ok (take z c.line-bytes.new.out)) whole in
-    good_frame c.args.text.now split.line.now split.byte c.in-ok-plan.plan c.in-ok-split.ensures c.in-ok-plan.ensures _ line _ c.in-ok-frame.ensures.lawful
+    let line = c.in_ok-n.ensures.bytes.1 ∙ ap (λ z. Ok (take z c.line_bytes.new.out)) whole in
+    good_frame c.args.text.now split.line.now split.byte c.in_ok-plan.plan c.in_ok-split.ensures c.in_ok-plan.ensures _ line _ c.in_ok-frame.ensures.lawful

@@ -7,5 +7,5 @@ pub returns : goal.returns
 returns c =
     let cs = c.args.text.now in
     let rest = take_rest cs 3 in
-    (λ i. Ok (16 * c.in-ok-high.high + c.in-ok-low.low, rest i))
-    ∙ sym (split_ok cs c.in-ok-high.high c.in-ok-low.low c.in-ok-high.ensures c.in-ok-low.ensures c.if-text-ne32.false)
+    (λ i. Ok (16 * c.in_ok-high.high + c.in_ok-low.low, rest i))
+    ∙ sym (split_ok cs c.in_ok-high.high c.in_ok-low.low c.in_ok-high.ensures c.in_ok-low.ensures c.if-text-ne32.false)

@@ -6,12 +6,12 @@ use Rattle.inspect.proofs.words.frame_words.Goals as goal
 
 pub returns-in-Order : goal.returns-in-Order
 returns-in-Order c =
-    IfOk-weaker c.entry-lines.result _ _ (λ s tells p content lawful v. order_told p content c.in-Order.entry.now (string_bytes s) tells lawful (sym (ap view_of c.in-Order.is) ∙ v)) c.entry-lines.ensures
+    IfOk-weaker c.entry_lines.result _ _ (λ s tells p content lawful v. order_told p content c.in-Order.entry.now (string_bytes s) tells lawful (sym (ap view_of c.in-Order.is) ∙ v)) c.entry_lines.ensures
 
-pub returns-in-ok-agreed : goal.returns-in-ok-agreed
-returns-in-ok-agreed c =
+pub returns-in_ok-agreed : goal.returns-in_ok-agreed
+returns-in_ok-agreed c =
     let t = c.in-Token in
     IfOk-weaker c.format.result _ _
     (λ s e p content lawful v. e ∙ token_told p content t.sender t.stamp t.votes t.decided t.proposal.now t.decisions.now _ _ _
-    c.in-ok-head.ensures c.in-ok-proposed.ensures c.in-ok-agreed.ensures lawful (sym (ap view_of t.is) ∙ v))
+    c.in_ok-head.ensures c.in_ok-proposed.ensures c.in_ok-agreed.ensures lawful (sym (ap view_of t.is) ∙ v))
     c.format.ensures.ok

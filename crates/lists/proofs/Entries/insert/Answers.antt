@@ -10,8 +10,8 @@ pub returns : goal.returns
 returns c =
     let t = c.args.self.now in
     let e = c.args.e in
-    let put = rw c.part.ensures at c.place-of-place.ensures.place in
-    let made = inserted_items e t c.place-of-place.result c.insert-at.new.items (omega arith) put c.insert-at.ensures in
+    let put = rw c.part.ensures at c.place_of-place.ensures.place in
+    let made = inserted_items e t c.place_of-place.result c.insert_at.new.items (omega arith) put c.insert_at.ensures in
     let means = holds (inserted e (held t)) t _ made in
     record {
       answer = grind (arith, nat_tests);

@@ -8,7 +8,7 @@ pub returns : goal.returns
 returns c =
     let t = c.args.self.now in
     let flags = c.args.gone.now in
-    let made = stayed_items flags t c.keep-unflagged-kept.result c.keep-unflagged-kept.new.items c.keep-unflagged-kept.ensures.kept c.keep-unflagged-kept.ensures.after in
+    let made = stayed_items flags t c.keep_unflagged-kept.result c.keep_unflagged-kept.new.items c.keep_unflagged-kept.ensures.kept c.keep_unflagged-kept.ensures.after in
     let means = holds (staying flags (held t)) t _ made in
     record {
       table = made ∙ ap (λ b. cond b (holding (staying flags (held t)) t) t) c.if-not-fits.ensures;

@@ -8,10 +8,10 @@ pub returns : goal.returns
 returns c =
     let l = c.args.self.now in
     let d = c.args.decision.now in
-    let q = sym c.if-not-adds-up.ensures in
+    let q = sym c.if-not-adds_up.ensures in
     let fits = true-leb (l.entries.count + length d) 105 c.if-not-extend.ensures.answer in
     let few : l.decided < 105 = omega arith in
-    let more : 0 < length d = let apart = false-eqb (length d) 0 c.if-is-empty.ensures in omega arith in
+    let more : 0 < length d = let apart = false-eqb (length d) 0 c.if-is_empty.ensures in omega arith in
     let room : l.decided < length l.lengths = omega arith in
     let made = is_appended l d _ c.if-not-extend.ensures.table in
     record {

@@ -4,4 +4,4 @@ use Rattle.machines.proofs.domes.told.Goals as goal
 
 pub returns : goal.returns
 returns c =
-    record { after = search rules; reads = simp c.turn.ensures (after_keeps c.args.azimuth c.read.result); range-law = dome_stays_in_range; turns-law = dome_turns_as_told }
+    record { after = search rules; reads = simp c.turn.ensures (after_keeps c.args.azimuth c.read.result); range_law = dome_stays_in_range; turns_law = dome_turns_as_told }

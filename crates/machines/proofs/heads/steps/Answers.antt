@@ -12,8 +12,8 @@ ticks-is c = omega (arith, ints)
 fits : (c : goal.After-from) → SFits w32 (c.args.rate *ℤ pos c.args.ticks)
 fits c = product_fits c.args.rate c.args.ticks c.requires.0 c.requires.1
 
-pub overflow-mul-result : goal.overflow-mul-result
-overflow-mul-result c = simp (rate-is c, ticks-is c) (fits c)
+pub overflow_mul-result : goal.overflow_mul-result
+overflow_mul-result c = simp (rate-is c, ticks-is c) (fits c)
 
 pub returns : goal.returns
 returns c =

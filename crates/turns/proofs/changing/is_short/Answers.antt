@@ -7,6 +7,6 @@ pub returns : goal.returns
 returns c =
     let own = length_parted (lengths_of c.args.row.now.log) (held c.args.row.now.log.entries) in
     let theirs = length_parted (lengths_of c.args.token.now.log) (held c.args.token.now.log.entries) in
-    let a = c.decision-lengths.ensures.meaning in
-    let b = c.decision-lengths-2.ensures.meaning in
+    let a = c.decision_lengths.ensures.meaning in
+    let b = c.decision_lengths-2.ensures.meaning in
     cc

@@ -6,15 +6,15 @@ use Rattle.records.proofs.Drafts.{fitting}
 use Rattle.turns.proofs.Changes.{order_fits, with_entry_fits, remade, reboxed, tables-fit}
 use Rattle.turns.proofs.changing.keep_order.Goals as goal
 
-pub with-entry-row-requires : goal.with-entry-row-requires
-with-entry-row-requires c = order_fits _ _ _ _ c.requires.keeps c.requires.lawful c.requires.new
+pub with_entry-row-requires : goal.with_entry-row-requires
+with_entry-row-requires c = order_fits _ _ _ _ c.requires.keeps c.requires.lawful c.requires.new
 
 pub returns : goal.returns
 returns c =
     let r = c.args.row.now in
     let e = c.args.entry in
-    let table = c.with-entry-row.result in
-    let made = c.with-entry-row.ensures in
+    let table = c.with_entry-row.result in
+    let made = c.with_entry-row.ensures in
     let fits = fitting r c.requires.keeps.tables in
     let more = with_entry_fits e r.unordered table (order_fits _ _ r e c.requires.keeps c.requires.lawful c.requires.new) made in
     record {

@@ -4,11 +4,11 @@ use Rattle.received.specs.Received.{token_of}
 use Rattle.turns.proofs.Changes.{decides_some, decision_fits, decisions_fit}
 use Rattle.turns.proofs.changing.open_log.Goals as goal
 
-pub with-decision-requires : goal.with-decision-requires
-with-decision-requires c =
+pub with_decision-requires : goal.with_decision-requires
+with_decision-requires c =
     let p = c.args.plan.now in
     let t = token_of c.args.token.now in
-    let decided = sym (c.is-decided.ensures ∙ ap (λ v. eqb v (p.f + 1)) c.requires.votes) ∙ c.if-is-decided.true in
+    let decided = sym (c.is_decided.ensures ∙ ap (λ v. eqb v (p.f + 1)) c.requires.votes) ∙ c.if-is_decided.true in
     let some = decides_some p (box_of c.args.row.now) t decided in
     let same = ap length c.part.ensures in
     record {

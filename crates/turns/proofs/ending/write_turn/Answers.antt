@@ -4,8 +4,8 @@ use Rattle.records.specs.Records.{turn_of, turn_fits}
 use Rattle.records.proofs.Drafts.{fitting}
 use Rattle.turns.proofs.ending.write_turn.Goals as goal
 
-pub write-open-requires : goal.write-open-requires
-write-open-requires c =
+pub write_open-requires : goal.write_open-requires
+write_open-requires c =
     let row = c.args.row.now in
     let fits = fitting row c.requires.rules.tables in
     record {

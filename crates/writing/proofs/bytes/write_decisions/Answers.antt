@@ -13,20 +13,20 @@ loop-i-init c = (refl, omega arith, refl, paste_none c.args.out.now c.args.at []
 pub bounds-out-to : goal.bounds-out-to
 bounds-out-to c = let s = sum_next c.args.lengths.now c.loop-i.i c.loop-i-test.true in omega arith
 
-pub overflow-add-to : goal.overflow-add-to
-overflow-add-to c = let s = sum_next c.args.lengths.now c.loop-i.i c.loop-i-test.true in omega arith
+pub overflow_add-to : goal.overflow_add-to
+overflow_add-to c = let s = sum_next c.args.lengths.now c.loop-i.i c.loop-i-test.true in omega arith
 
-pub overflow-add-from : goal.overflow-add-from
-overflow-add-from c = let s = sum_next c.args.lengths.now c.loop-i.i c.loop-i-test.true in omega arith
+pub overflow_add-from : goal.overflow_add-from
+overflow_add-from c = let s = sum_next c.args.lengths.now c.loop-i.i c.loop-i-test.true in omega arith
 
 pub offset-bounds-entries-from : goal.offset-bounds-entries-from
 offset-bounds-entries-from c = let s = sum_next c.args.lengths.now c.loop-i.i c.loop-i-test.true in omega arith
 
-pub slice-bounds-write-entries-end : goal.slice-bounds-write-entries-end
-slice-bounds-write-entries-end c = let s = sum_next c.args.lengths.now c.loop-i.i c.loop-i-test.true in omega arith
+pub slice-bounds-write_entries-end : goal.slice-bounds-write_entries-end
+slice-bounds-write_entries-end c = let s = sum_next c.args.lengths.now c.loop-i.i c.loop-i-test.true in omega arith
 
-pub write-entries-to-requires : goal.write-entries-to-requires
-write-entries-to-requires c =
+pub write_entries-to-requires : goal.write_entries-to-requires
+write_entries-to-requires c =
     let s = sum_next c.args.lengths.now c.loop-i.i c.loop-i-test.true in
     let n = part_length c.args.out.now c.args.lengths.now c.args.entries.now c.args.at c.loop-i.i c.loop-i.from c.loop-i.to c.loop-i.out c.loop-i-test.true c.requires.0 c.requires.1 c.loop-i.invariant.0 c.loop-i.invariant.1 c.loop-i.invariant.2 c.loop-i.invariant.3 in
     simp length-set (omega arith)
@@ -34,7 +34,7 @@ write-entries-to-requires c =
 pub loop-i-preserved : goal.loop-i-preserved
 loop-i-preserved c =
     turn c.args.out.now c.args.lengths.now c.args.entries.now c.args.at c.loop-i.i c.loop-i.from c.loop-i.to c.loop-i.out c.loop-i-test.true c.requires.0 c.requires.1 c.loop-i.invariant.0 c.loop-i.invariant.1 c.loop-i.invariant.2 c.loop-i.invariant.3
-    _ _ c.write-entries-to.ensures.end c.write-entries-to.ensures.bytes c.write-entries-to.ensures.long
+    _ _ c.write_entries-to.ensures.end c.write_entries-to.ensures.bytes c.write_entries-to.ensures.long
 
 pub returns : goal.returns
 returns c =

@@ -15,10 +15,10 @@ loop-i-preserved c =
     let i = c.loop-i.i in
     let e = get_or xs i (record { id = 0; body = [] }) in
     let more = ap (flat_map entry_bytes) (take_more xs i (record { id = 0; body = [] }) c.loop-i-test.true) ∙ sym (flat_map_more entry_bytes [] (take i xs) e) in
-    let long = c.write-entry.ensures.long in
+    let long = c.write_entry.ensures.long in
     let n : 9 * i + 9 ≡ 9 * (i + 1) = omega arith in
     let both = paste-paste c.args.out.now c.args.at (flat_map entry_bytes (take i xs)) (entry_bytes e) (9 * i) 9 (sym c.loop-i.invariant.0) (sym long) (omega arith) in
-    let w = c.write-entry.ensures.bytes in
+    let w = c.write_entry.ensures.bytes in
     let sum = length-append (flat_map entry_bytes (take i xs)) (entry_bytes e) in
     (ap length more ∙ omega (arith, sum, long), cc)
 

@@ -25,17 +25,17 @@ returns-then-length-eq0 c = record {
       sym same ∙ none_there c.args.plan.now cs c.args.entries.now _ c.loop-j.first _ left seen c.loop-j-test.true (omega arith) c.if-length-eq0.true;
 }
 
-pub overflow-add-next : goal.overflow-add-next
-overflow-add-next c = let s = sum_next c.args.lengths.now c.loop-j.j c.loop-j-test.true in omega arith
+pub overflow_add-next : goal.overflow_add-next
+overflow_add-next c = let s = sum_next c.args.lengths.now c.loop-j.j c.loop-j-test.true in omega arith
 
 pub offset-bounds-entries-first : goal.offset-bounds-entries-first
 offset-bounds-entries-first c = let s = sum_next c.args.lengths.now c.loop-j.j c.loop-j-test.true in omega arith
 
-pub slice-bounds-check-entries-end : goal.slice-bounds-check-entries-end
-slice-bounds-check-entries-end c = let s = sum_next c.args.lengths.now c.loop-j.j c.loop-j-test.true in omega arith
+pub slice-bounds-check_entries-end : goal.slice-bounds-check_entries-end
+slice-bounds-check_entries-end c = let s = sum_next c.args.lengths.now c.loop-j.j c.loop-j-test.true in omega arith
 
-pub returns-in-err-at : goal.returns-in-err-at
-returns-in-err-at c =
+pub returns-in_err-at : goal.returns-in_err-at
+returns-in_err-at c =
     let x = err_from_is_err_and c.from-residual.result c.from-residual.ensures.1 in
     rw (x.1, x.2) (record {
       whole = tt;
@@ -43,19 +43,19 @@ returns-in-err-at c =
           let cs = c.args.lengths.now in
           let s = sum_next cs c.loop-j.j c.loop-j-test.true in
           let (seen, marks, same) = c.loop-j.invariant.2 left met m in
-          sym same ∙ fails_there c.args.plan.now cs c.args.entries.now c.loop-j.j c.loop-j.first _ left seen c.loop-j-test.true (omega arith) c.if-length-eq0.false _ (c.in-err-at.ensures.checked _ seen marks);
+          sym same ∙ fails_there c.args.plan.now cs c.args.entries.now c.loop-j.j c.loop-j.first _ left seen c.loop-j-test.true (omega arith) c.if-length-eq0.false _ (c.in_err-at.ensures.checked _ seen marks);
     })
 
 pub loop-j-preserved : goal.loop-j-preserved
 loop-j-preserved c =
     let cs = c.args.lengths.now in
     let s = sum_next cs c.loop-j.j c.loop-j-test.true in
-    let near = c.in-ok-at.ensures.near in (
-      (omega arith, omega arith, omega (arith, c.type-inv.lengths c.loop-j.j)),
-      whole_more c.args.plan.now cs c.args.entries.now c.loop-j.j c.loop-j.first 0 [] [] c.loop-j-test.true (omega arith) c.loop-j.invariant.1 c.in-ok-at.ensures.whole,
+    let near = c.in_ok-at.ensures.near in (
+      (omega arith, omega arith, omega (arith, c.type_inv.lengths c.loop-j.j)),
+      whole_more c.args.plan.now cs c.args.entries.now c.loop-j.j c.loop-j.first 0 [] [] c.loop-j-test.true (omega arith) c.loop-j.invariant.1 c.in_ok-at.ensures.whole,
       λ left met m.
           let (seen, marks, same) = c.loop-j.invariant.2 left met m in
-          let (after, is, marked) = c.in-ok-at.ensures.checked _ seen marks in
+          let (after, is, marked) = c.in_ok-at.ensures.checked _ seen marks in
           (after, marked, sym (goes_on c.args.plan.now cs c.args.entries.now c.loop-j.j c.loop-j.first c.loop-j.at left seen c.loop-j-test.true (omega arith) c.if-length-eq0.false _ after is) ∙ same),
     )
 

@@ -19,8 +19,8 @@ loop-i-init c =
     let all : length es - 0 ≡ length es = omega arith in
     ((omega arith, omega arith, omega arith, omega arith), tt, λ left met m. (met, m, ap (λ z. entries_as c.args.plan.now z 0 (before c.args.from es 0 left met)) all))
 
-pub returns-then-out-of-range : goal.returns-then-out-of-range
-returns-then-out-of-range c = record {
+pub returns-then-out_of_range : goal.returns-then-out_of_range
+returns-then-out_of_range c = record {
   near = tt;
   whole = tt;
   checked = λ left met m.
@@ -28,8 +28,8 @@ returns-then-out-of-range c = record {
       let i = c.loop-i.i in
       let (seen, marks, same) = c.loop-i.invariant.2 left met m in
       let here = drop_more es i none c.loop-i-test.true in
-      let id = c.id-of-id.ensures.value in
-      let bad : out_of_range c.args.plan.now (get_or es i none).id ≡ true = ap (out_of_range c.args.plan.now) (sym id) ∙ sym c.out-of-range.ensures ∙ c.if-out-of-range.true in
+      let id = c.id_of-id.ensures.value in
+      let bad : out_of_range c.args.plan.now (get_or es i none).id ≡ true = ap (out_of_range c.args.plan.now) (sym id) ∙ sym c.out_of_range.ensures ∙ c.if-out_of_range.true in
       sym same ∙ walk_range c.args.plan.now es i _ _ _ left seen c.loop-i-test.true here bad;
 }
 
@@ -42,13 +42,13 @@ returns-then-id-last c = record {
       let i = c.loop-i.i in
       let (seen, marks, same) = c.loop-i.invariant.2 left met m in
       let here = drop_more es i none c.loop-i-test.true in
-      let id = c.id-of-id.ensures.value in
-      let good : out_of_range c.args.plan.now (get_or es i none).id ≡ false = ap (out_of_range c.args.plan.now) (sym id) ∙ sym c.out-of-range.ensures ∙ c.if-out-of-range.false in
-      let small : c.id-of-id.result < 256 = omega arith in
-      let bad : (leb c.id-of-id.result c.loop-i.last || has c.id-of-id.result seen) ≡ true =
+      let id = c.id_of-id.ensures.value in
+      let good : out_of_range c.args.plan.now (get_or es i none).id ≡ false = ap (out_of_range c.args.plan.now) (sym id) ∙ sym c.out_of_range.ensures ∙ c.if-out_of_range.false in
+      let small : c.id_of-id.result < 256 = omega arith in
+      let bad : (leb c.id_of-id.result c.loop-i.last || has c.id_of-id.result seen) ≡ true =
       elim c.then-id-last.branch [
         | then-id-last-via-then-id-last w ↦ or_left _ _ (le-leb _ _ w.if-id-last.true)
-        | then-id-last-via-else-id-last+then-seen-id w ↦ or_right _ _ (sym (marks c.id-of-id.result small) ∙ w.if-seen-id.true)
+        | then-id-last-via-else-id-last+then-seen-id w ↦ or_right _ _ (sym (marks c.id_of-id.result small) ∙ w.if-seen-id.true)
       ] in
       sym same ∙ walk_ids c.args.plan.now es i _ _ _ left seen c.loop-i-test.true here good (ap (λ z. leb z c.loop-i.last || has z seen) (sym id) ∙ bad);
 }
@@ -57,18 +57,18 @@ pub loop-i-preserved : goal.loop-i-preserved
 loop-i-preserved c =
     let es = c.args.entries.now in
     let i = c.loop-i.i in
-    let id = c.id-of-id.ensures.value in
-    let small : c.id-of-id.result < 256 = omega arith in
-    let good : out_of_range c.args.plan.now (get_or es i none).id ≡ false = ap (out_of_range c.args.plan.now) (sym id) ∙ sym c.out-of-range.ensures ∙ c.if-out-of-range.false in
+    let id = c.id_of-id.ensures.value in
+    let small : c.id_of-id.result < 256 = omega arith in
+    let good : out_of_range c.args.plan.now (get_or es i none).id ≡ false = ap (out_of_range c.args.plan.now) (sym id) ∙ sym c.out_of_range.ensures ∙ c.if-out_of_range.false in
     let here = drop_more es i none c.loop-i-test.true in
-    let w = c.id-of-id.ensures.whole in (
+    let w = c.id_of-id.ensures.whole in (
       (omega arith, omega arith, omega arith, simp length-set (omega arith)),
       all_more es i none c.loop-i.invariant.1 w c.loop-i-test.true,
       λ left met m.
           let (seen, marks, same) = c.loop-i.invariant.2 left met m in
-          let fresh : (leb c.id-of-id.result c.loop-i.last || has c.id-of-id.result seen) ≡ false = or_from _ _ (lt-leb _ _ c.if-id-last.false) (sym (marks c.id-of-id.result small) ∙ c.if-seen-id.false) in
+          let fresh : (leb c.id_of-id.result c.loop-i.last || has c.id_of-id.result seen) ≡ false = or_from _ _ (lt-leb _ _ c.if-id-last.false) (sym (marks c.id_of-id.result small) ∙ c.if-seen-id.false) in
           let more = walk_more c.args.plan.now es i c.loop-i.last c.loop-i.at (get_or es i none) left seen c.loop-i-test.true here good (ap (λ z. leb z c.loop-i.last || has z seen) (sym id) ∙ fresh) w in
-          (_, marks_more _ _ c.id-of-id.result c.loop-i.invariant.0.3 small marks, (λ k. entries_as c.args.plan.now (length es - (i + 1)) (id k) (before (c.loop-i.at + 9) es (i + 1) left (id k ∷ seen))) ∙ sym more ∙ same),
+          (_, marks_more _ _ c.id_of-id.result c.loop-i.invariant.0.3 small marks, (λ k. entries_as c.args.plan.now (length es - (i + 1)) (id k) (before (c.loop-i.at + 9) es (i + 1) left (id k ∷ seen))) ∙ sym more ∙ same),
     )
 
 pub returns : goal.returns

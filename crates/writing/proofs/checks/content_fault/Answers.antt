@@ -18,10 +18,10 @@ pub returns-in-Ok : goal.returns-in-Ok
 returns-in-Ok c =
     let t = a_token c.args.sender c.args.stamp c.args.votes c.args.proposal.now c.args.lengths.now c.args.entries.now in
     let small : c.args.stamp < 2 ^ 32 = omega arith in
-    let reads = by_numbers c.args.plan.now t _ _ small (parted_count c.args.lengths.now c.args.entries.now) c.in-default.ensures
+    let reads = by_numbers c.args.plan.now t _ _ small (parted_count c.args.lengths.now c.args.entries.now) c.in_default.ensures
     ∙ c.in-Ok.ensures.listed c.args.sender c.args.stamp c.args.votes small in
     let w = c.in-Ok.ensures.whole in
-    let bytes : (i : ℕ) → get_or c.args.lengths.now i 0 < 256 = λ i. omega (arith, c.type-inv.lengths i) in
+    let bytes : (i : ℕ) → get_or c.args.lengths.now i 0 < 256 = λ i. omega (arith, c.type_inv.lengths i) in
     let all = All-from_get_or (λ b. b < 256) c.args.lengths.now 0 (λ i _. bytes i) in
     record {
       value = sym (ap fault_of reads);
@@ -36,9 +36,9 @@ pub returns-in-Err : goal.returns-in-Err
 returns-in-Err c =
     let t = a_token c.args.sender c.args.stamp c.args.votes c.args.proposal.now c.args.lengths.now c.args.entries.now in
     let small : c.args.stamp < 2 ^ 32 = omega arith in
-    let reads = by_numbers c.args.plan.now t _ _ small (parted_count c.args.lengths.now c.args.entries.now) c.in-default.ensures
+    let reads = by_numbers c.args.plan.now t _ _ small (parted_count c.args.lengths.now c.args.entries.now) c.in_default.ensures
     ∙ c.in-Err.ensures.listed c.args.sender c.args.stamp c.args.votes small in
     record { value = sym (ap fault_of reads); back = tt; lawful = tt; room = tt }
 
-pub check-lists-requires : goal.check-lists-requires
-check-lists-requires c = (c.requires.adds-up, c.requires.decided_fits)
+pub check_lists-requires : goal.check_lists-requires
+check_lists-requires c = (c.requires.adds-up, c.requires.decided_fits)

@@ -10,5 +10,5 @@ returns-in-Some c =
     let z : t.used - 0 ≡ t.used = omega arith in
     let found : Stands (take t.used t.slots) c.args.to c.args.place c.in-Some.k = subst (λ n. Stands (take n t.slots) c.args.to c.args.place c.in-Some.k) z c.in-Some.ensures in
     let there = stands_there (take t.used t.slots) c.args.to c.args.place c.in-Some.k found in
-    let box = c.in-ok-check-box.ensures in
+    let box = c.in_ok-check_box.ensures in
     (grind (arith, nat_tests), found)

@@ -9,7 +9,7 @@ pub returns : goal.returns
 returns c to place found =
     let t = c.args.self.now in
     let k = c.args.k in
-    let left = used_less t.slots c.move-last.new.items t.used k (omega (arith, t.room, t.few)) c.requires c.move-last.ensures in
+    let left = used_less t.slots c.move_last.new.items t.used k (omega (arith, t.room, t.few)) c.requires c.move_last.ensures in
     record {
       own = ap (frames_for to) left ∙ removed_own (take t.used t.slots) to place k found;
       others = λ b ne. ap (frames_for b) left ∙ removed_other (take t.used t.slots) to place k found b ne;

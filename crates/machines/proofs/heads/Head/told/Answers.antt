@@ -5,4 +5,4 @@ use Rattle.machines.proofs.heads.Head.told.Goals as goal
 
 pub returns : goal.returns
 returns c =
-    record { after = search rules; reads = simp c.obey.ensures (after_reads c.args.self c.read.result c.requires); range-law = head_stays_in_range; moves-law = head_moves_as_told }
+    record { after = search rules; reads = simp c.obey.ensures (after_reads c.args.self c.read.result c.requires); range_law = head_stays_in_range; moves_law = head_moves_as_told }

@@ -10,7 +10,7 @@ use Rattle.ring.proofs.Writing as writes
 use Rattle.ring.proofs.seats.StartedBox.send.Goals as goal
 
 pub unwrap-length-requires : goal.unwrap-length-requires
-unwrap-length-requires c = writes.accepted _ _ _ _ _ c.write-order.ensures c.in-default.ensures.cleared.fits c.take-serial-entry.ensures.lawful
+unwrap-length-requires c = writes.accepted _ _ _ _ _ c.write_order.ensures c.in_default.ensures.cleared.fits c.take_serial-entry.ensures.lawful
 
 pub returns : goal.returns
 returns c =
@@ -19,18 +19,18 @@ returns c =
     let r = c.args.row.now in
     let body = c.args.body.now in
     let out = c.args.out.now in
-    let e = c.take-serial-entry.result in
-    let clear = c.in-default.ensures.cleared in
-    let none : own_fault (box_of r) (length out) true ≡ None = sym (c.in-default.ensures.fault.0 clear.rules) in
-    let entry = c.take-serial-entry.ensures.entry in
-    let long = writes.long _ _ _ _ _ c.write-order.ensures clear.fits c.take-serial-entry.ensures.lawful _ c.unwrap-length.ensures ∙ ap (λ z. length (bytes_of p (order z))) entry in
-    let front = writes.front _ _ _ _ _ c.write-order.ensures clear.fits c.take-serial-entry.ensures.lawful ∙ ap (λ z. at_front (bytes_of p (order z)) out) entry in
+    let e = c.take_serial-entry.result in
+    let clear = c.in_default.ensures.cleared in
+    let none : own_fault (box_of r) (length out) true ≡ None = sym (c.in_default.ensures.fault.0 clear.rules) in
+    let entry = c.take_serial-entry.ensures.entry in
+    let long = writes.long _ _ _ _ _ c.write_order.ensures clear.fits c.take_serial-entry.ensures.lawful _ c.unwrap-length.ensures ∙ ap (λ z. length (bytes_of p (order z))) entry in
+    let front = writes.front _ _ _ _ _ c.write_order.ensures clear.fits c.take_serial-entry.ensures.lawful ∙ ap (λ z. at_front (bytes_of p (order z)) out) entry in
     let answer : ◌≡◌ {A = Result (ℕ × ℕ) BoxFault} (Ok (e.id, c.unwrap-length.result)) (Ok (next_id (box_of r), length (bytes_of p (order (next_entry (box_of r) body))))) = λ j. Ok ((entry j).id, long j) in
     record {
       answer = (λ _. answer ∙ sym (ap (λ z. refused_or z (next_id (box_of r), length (bytes_of p (order (next_entry (box_of r) body))))) none), λ broken. absurd (broken clear.rules));
-      row = (λ _. c.take-serial-entry.ensures.row ∙ sym (ap (λ z. kept_row z r (sent_row body r)) none), λ broken. absurd (broken clear.rules));
-      meaning = (λ _. c.take-serial-entry.ensures.meaning ∙ sym (ap (λ z. stayed_or z (box_of r) (sending (box_of r) body)) none), λ broken. absurd (broken clear.rules));
+      row = (λ _. c.take_serial-entry.ensures.row ∙ sym (ap (λ z. kept_row z r (sent_row body r)) none), λ broken. absurd (broken clear.rules));
+      meaning = (λ _. c.take_serial-entry.ensures.meaning ∙ sym (ap (λ z. stayed_or z (box_of r) (sending (box_of r) body)) none), λ broken. absurd (broken clear.rules));
       buffer = (λ _. front ∙ sym (ap (λ z. written_or z out (bytes_of p (order (next_entry (box_of r) body)))) none), λ broken. absurd (broken clear.rules));
-      stays = λ _. c.take-serial-entry.ensures.rules;
-      reads = writes.reads _ _ _ _ _ c.write-order.ensures clear.fits c.take-serial-entry.ensures.lawful _ c.unwrap-length.ensures ∙ ap (λ z. Ok (order z)) entry;
+      stays = λ _. c.take_serial-entry.ensures.rules;
+      reads = writes.reads _ _ _ _ _ c.write_order.ensures clear.fits c.take_serial-entry.ensures.lawful _ c.unwrap-length.ensures ∙ ap (λ z. Ok (order z)) entry;
     }

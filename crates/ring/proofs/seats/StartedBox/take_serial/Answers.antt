@@ -9,8 +9,8 @@ use Rattle.ring.specs.Calls.{sent_row}
 use Rattle.ring.proofs.Sending as next
 use Rattle.ring.proofs.seats.StartedBox.take_serial.Goals as goal
 
-pub put-entry-requires : goal.put-entry-requires
-put-entry-requires c =
+pub put_entry-requires : goal.put_entry-requires
+put_entry-requires c =
     let bytes = All-from_get_or (λ b. b < 256) c.args.body.now 0 (λ i _. c.fits-body i) in
     record {
       fits = next.fits _ _ _ c.requires.rules c.requires.left _ c.told-body bytes;
@@ -28,7 +28,7 @@ returns c =
     let bytes = All-from_get_or (λ b. b < 256) body 0 (λ i _. c.fits-body i) in
     let id : 16 * at + r.last + 1 ≡ 16 * r.seat + (r.last + 1) = omega (arith, k.rules.seated) in
     let entry : ◌≡◌ {A = Entry} (record { id = 16 * at + r.last + 1; body = body }) (next_entry (box_of r) body) = λ j. record { id = id j; body = body } in
-    let table = c.put-entry.ensures ∙ ap (λ z. with_entry z r.unordered) entry in
+    let table = c.put_entry.ensures ∙ ap (λ z. with_entry z r.unordered) entry in
     let row : _ ≡ sent_row body r = λ j. record {
       n = r.n;
       f = r.f;
