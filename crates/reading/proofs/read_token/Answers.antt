@@ -12,14 +12,14 @@ use Rattle.reading.proofs.read_token.Goals as goal
 
 pub returns-in_err-middle : goal.returns-in_err-middle
 returns-in_err-middle c =
-    let x = err_from_is_err_and c.from-residual.result c.from-residual.ensures.1 in
+    let x = err_from_is_err_and c.from_residual.result c.from_residual.ensures.1 in
     let head = c.in_default.ensures.1 in
     let fails = walked_err _ _ _ (c.in_err-middle.ensures.walked [] (none_marked 256)) in
     rw (x.1, x.2) (sym (ap shown_as (head ∙ lists_fail c.args.plan.now c.args.bytes.now _ fails)))
 
 pub returns-in_err-end : goal.returns-in_err-end
 returns-in_err-end c =
-    let x = err_from_is_err_and c.from-residual-in_err-end.result c.from-residual-in_err-end.ensures.1 in
+    let x = err_from_is_err_and c.from_residual-in_err-end.result c.from_residual-in_err-end.ensures.1 in
     let head = c.in_default.ensures.1 in
     let stood = walked_ok _ _ _ (c.in_ok-middle.ensures.walked [] (none_marked 256)) in
     let fails = walked_err _ _ _ (c.in_err-end.ensures.walked stood.rest.met stood.marks) in

@@ -6,7 +6,7 @@ use Rattle.received.proofs.receive.Goals as goal
 
 pub returns-in_err-entry : goal.returns-in_err-entry
 returns-in_err-entry c =
-    let p = err_from_is_err_and c.from-residual.result c.from-residual.ensures.1 in
+    let p = err_from_is_err_and c.from_residual.result c.from_residual.ensures.1 in
     rw (p.1, p.2) (record { contents = fault_read _ _ c.in_err-entry.ensures.answer; lawful = tt })
 
 pub unwrap-requires : goal.unwrap-requires

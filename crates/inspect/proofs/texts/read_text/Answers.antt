@@ -5,20 +5,20 @@ use Rattle.inspect.proofs.texts.read_text.Goals as goal
 
 pub returns-in_err-plan : goal.returns-in_err-plan
 returns-in_err-plan c =
-    let e = err_from_is_err_and c.from-residual-in_err-plan.result c.from-residual-in_err-plan.ensures.1 in
+    let e = err_from_is_err_and c.from_residual-in_err-plan.result c.from_residual-in_err-plan.ensures.1 in
     let split = c.in_ok-split.split in
     rw (e.1, e.2) (no_plan c.args.text.now split.line.now split.byte _ c.in_ok-split.ensures c.in_err-plan.ensures)
 
 pub returns-in_err-n : goal.returns-in_err-n
 returns-in_err-n c =
-    let e = err_from_is_err_and c.from-residual-in_err-n.result c.from-residual-in_err-n.ensures.1 in
+    let e = err_from_is_err_and c.from_residual-in_err-n.result c.from_residual-in_err-n.ensures.1 in
     let split = c.in_ok-split.split in
     rw (e.1, e.2)
     (bad-line c.args.text.now split.line.now split.byte c.in_ok-plan.plan c.in_ok-split.ensures c.in_ok-plan.ensures _ _ _ (omega arith) c.in_err-n.ensures.answer)
 
 pub returns-in_err-frame : goal.returns-in_err-frame
 returns-in_err-frame c =
-    let e = err_from_is_err_and c.from-residual-in_err-frame.result c.from-residual-in_err-frame.ensures.1 in
+    let e = err_from_is_err_and c.from_residual-in_err-frame.result c.from_residual-in_err-frame.ensures.1 in
     let split = c.in_ok-split.split in
     let n = c.in_ok-n.n in
     let whole : n ≡ n - 0 = omega arith in

@@ -36,7 +36,7 @@ slice-bounds-check_entries-end c = let s = sum_next c.args.lengths.now c.loop-j.
 
 pub returns-in_err-at : goal.returns-in_err-at
 returns-in_err-at c =
-    let x = err_from_is_err_and c.from-residual.result c.from-residual.ensures.1 in
+    let x = err_from_is_err_and c.from_residual.result c.from_residual.ensures.1 in
     rw (x.1, x.2) (record {
       whole = tt;
       checked = λ left met m.

@@ -8,7 +8,7 @@ use Rattle.writing.proofs.checks.check_lists.Goals as goal
 
 pub returns-in_err-middle : goal.returns-in_err-middle
 returns-in_err-middle c =
-    let x = err_from_is_err_and c.from-residual.result c.from-residual.ensures.1 in
+    let x = err_from_is_err_and c.from_residual.result c.from_residual.ensures.1 in
     rw (x.1, x.2) (record {
       whole = tt;
       listed = λ s r v h. proposal_fails c.args.plan.now s r v c.args.proposal.now c.args.lengths.now c.args.entries.now _ (c.in_err-middle.ensures.checked _ [] (none_marked 256));
