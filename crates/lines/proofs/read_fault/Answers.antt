@@ -12,8 +12,8 @@ returns-in-Some c =
     let found = line_found c.args.plan.now c.args.line.now c.args.room c.in-Some.fault c.in-Some.ensures.fault in
     record { fault = found; tested = tt; alone = one_line_for; worked = worked }
 
-pub slice-bounds-frame_fault-end : goal.slice-bounds-frame_fault-end
-slice-bounds-frame_fault-end c = omega (arith, c.in_default.ensures.tested.0)
+pub slice_bounds-frame_fault-end : goal.slice_bounds-frame_fault-end
+slice_bounds-frame_fault-end c = omega (arith, c.in_default.ensures.tested.0)
 
 pub returns : goal.returns
 returns c =

@@ -19,11 +19,11 @@ overflow_add-to c = let s = sum_next c.args.lengths.now c.loop-i.i c.loop-i-test
 pub overflow_add-from : goal.overflow_add-from
 overflow_add-from c = let s = sum_next c.args.lengths.now c.loop-i.i c.loop-i-test.true in omega arith
 
-pub offset-bounds-entries-from : goal.offset-bounds-entries-from
-offset-bounds-entries-from c = let s = sum_next c.args.lengths.now c.loop-i.i c.loop-i-test.true in omega arith
+pub offset_bounds-entries-from : goal.offset_bounds-entries-from
+offset_bounds-entries-from c = let s = sum_next c.args.lengths.now c.loop-i.i c.loop-i-test.true in omega arith
 
-pub slice-bounds-write_entries-end : goal.slice-bounds-write_entries-end
-slice-bounds-write_entries-end c = let s = sum_next c.args.lengths.now c.loop-i.i c.loop-i-test.true in omega arith
+pub slice_bounds-write_entries-end : goal.slice_bounds-write_entries-end
+slice_bounds-write_entries-end c = let s = sum_next c.args.lengths.now c.loop-i.i c.loop-i-test.true in omega arith
 
 pub write_entries-to-requires : goal.write_entries-to-requires
 write_entries-to-requires c =

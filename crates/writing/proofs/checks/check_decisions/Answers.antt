@@ -28,11 +28,11 @@ returns-then-length-eq0 c = record {
 pub overflow_add-next : goal.overflow_add-next
 overflow_add-next c = let s = sum_next c.args.lengths.now c.loop-j.j c.loop-j-test.true in omega arith
 
-pub offset-bounds-entries-first : goal.offset-bounds-entries-first
-offset-bounds-entries-first c = let s = sum_next c.args.lengths.now c.loop-j.j c.loop-j-test.true in omega arith
+pub offset_bounds-entries-first : goal.offset_bounds-entries-first
+offset_bounds-entries-first c = let s = sum_next c.args.lengths.now c.loop-j.j c.loop-j-test.true in omega arith
 
-pub slice-bounds-check_entries-end : goal.slice-bounds-check_entries-end
-slice-bounds-check_entries-end c = let s = sum_next c.args.lengths.now c.loop-j.j c.loop-j-test.true in omega arith
+pub slice_bounds-check_entries-end : goal.slice_bounds-check_entries-end
+slice_bounds-check_entries-end c = let s = sum_next c.args.lengths.now c.loop-j.j c.loop-j-test.true in omega arith
 
 pub returns-in_err-at : goal.returns-in_err-at
 returns-in_err-at c =
