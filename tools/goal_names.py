@@ -11,7 +11,7 @@ import glob
 import re
 import sys
 
-FIXED = {"offset-bounds": "offset_bounds", "slice-bounds": "slice_bounds", "from-residual": "from_residual", "type-inv": "type_inv", "in-ok": "in_ok", "in-err": "in_err", "in-default": "in_default"}
+FIXED = {"well-formed": "well_formed", "offset-bounds": "offset_bounds", "slice-bounds": "slice_bounds", "from-residual": "from_residual", "type-inv": "type_inv", "in-ok": "in_ok", "in-err": "in_err", "in-default": "in_default"}
 OVERFLOW = re.compile(r"\boverflow-(add|sub|mul|div|rem|neg|cast|shl|shr|index)\b")
 
 

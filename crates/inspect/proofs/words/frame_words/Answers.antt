@@ -8,10 +8,10 @@ pub returns-in-Order : goal.returns-in-Order
 returns-in-Order c =
     IfOk-weaker c.entry_lines.result _ _ (λ s tells p content lawful v. order_told p content c.in-Order.entry.now (string_bytes s) tells lawful (sym (ap view_of c.in-Order.is) ∙ v)) c.entry_lines.ensures
 
-pub returns-in_ok-agreed : goal.returns-in_ok-agreed
-returns-in_ok-agreed c =
+pub returns-in_ok-agreed-in-Token : goal.returns-in_ok-agreed-in-Token
+returns-in_ok-agreed-in-Token c =
     let t = c.in-Token in
     IfOk-weaker c.format.result _ _
     (λ s e p content lawful v. e ∙ token_told p content t.sender t.stamp t.votes t.decided t.proposal.now t.decisions.now _ _ _
-    c.in_ok-head.ensures c.in_ok-proposed.ensures c.in_ok-agreed.ensures lawful (sym (ap view_of t.is) ∙ v))
+    c.in_ok-head-in-Token.ensures c.in_ok-proposed-in-Token.ensures c.in_ok-agreed-in-Token.ensures lawful (sym (ap view_of t.is) ∙ v))
     c.format.ensures.ok
