@@ -20,7 +20,6 @@ use Rattle.boxes.specs.declared.Outcome.TheVariants as outcome
 use Rattle.boxes.specs.declared.BoxFault.{BoxFault}
 use Rattle.boxes.specs.Boxes.{Box, Keeps, log_ids, passed}
 use Rattle.boxes.specs.Turns.{left, holding, logging, passing, opened_log, opened_turn, opened}
-use Rattle.boxes.specs.Handling.{answer}
 use Rattle.boxes.specs.Cases.{Handled, OrderHandled, TokenHandled}
 use Rattle.boxes.specs.Laws.{ComesFrom}
 use Rattle.boxes.proofs.Ids.{all_inserted}

@@ -1,17 +1,14 @@
 -- What reads was written.
-use Rattle.std.proofs.Common.{◌≡◌, ℕ, zero, suc, ◌+◌, ◌-◌, ◌*◌, ◌/◌, ◌%◌, ◌<◌, ◌≤◌, Bool, true, false, cond, not, ◌&&◌, ◌||◌, eqb, ltb, leb, ◌≢◌, ◌⊎◌, List, [], ◌∷◌, ◌++◌, length, get_or, take, drop, Ok, Err, Result, sym, refl, ap, ◌∙◌, subst, inl, inr, arith, length-append, length-drop, length-take}
+use Rattle.std.proofs.Common.{◌≡◌, ℕ, zero, suc, ◌+◌, ◌-◌, ◌*◌, ◌/◌, ◌%◌, ◌<◌, ◌≤◌, true, false, cond, not, ◌||◌, eqb, ltb, leb, ◌≢◌, ◌⊎◌, List, [], ◌∷◌, ◌++◌, length, get_or, take, drop, Ok, sym, refl, ap, ◌∙◌, subst, inl, inr, arith, length-append, length-drop, length-take}
 use Rattle.std.specs.List.{flat_map, AllByRecursion as All}
 use Rattle.std.proofs.lemmas.Bool.Decides.{nat_tests}
 use Rattle.std.proofs.ByRecursion.{All-take, All-drop, All-get_or}
 use Rattle.std.proofs.lemmas.List.{append_assoc, drop-drop, drop_more, take-append-drop}
 use Rattle.std.proofs.lemmas.Bool.{cond-true, cond-false, ltb-false, leb-false, eqb-false, eqb-true, or_parts, cases_Bool}
-use Rattle.frames.specs.declared.Cause.{Cause}
-use Rattle.frames.specs.declared.FrameFault.{FrameFault}
 use Rattle.frames.specs.declared.plan.Plan.{Plan}
-use Rattle.frames.specs.declared.Entry.{Entry}
-use Rattle.frames.specs.Contents.{Token, Content, LawfulEntry, LawfulList, LawfulDecision, LawfulToken, Ascend, Once, InRange, entry_bytes, decision_bytes, ids_of, bytes_of, token_bytes, has, Lawful, Dummy, Round, plan_byte, four_bytes}
+use Rattle.frames.specs.Contents.{Content, LawfulEntry, LawfulDecision, LawfulToken, Ascend, Once, entry_bytes, decision_bytes, ids_of, bytes_of, token_bytes, has, Lawful, plan_byte, four_bytes}
 use Rattle.frames.specs.Contents.Content.{order, token}
-use Rattle.frames.specs.Reading.{Rest, entries_as, decisions_as, entries_in, decisions_in, entry_in, and_then, out_of_range, ended, read_as, order_as, token_as, lists_as, token_in, stamp_in, bad_round, bad_votes, bad_proposed, bad_decided, test, start_at, next_byte, past_entry, past_count}
+use Rattle.frames.specs.Reading.{Rest, entries_as, decisions_as, entries_in, decisions_in, entry_in, out_of_range, ended, read_as, order_as, token_as, lists_as, token_in, bad_round, bad_votes, bad_proposed, bad_decided, start_at, next_byte, past_entry, past_count}
 use Rattle.frames.proofs.Steps.{passed, came, ten}
 use Rattle.frames.proofs.Written.{past, once_join, none_of, append_none, GoodHead}
 

@@ -1,14 +1,14 @@
 -- A front of a frame, and the whole.
-use Rattle.std.proofs.Common.{◌≡◌, ℕ, zero, suc, ◌+◌, ◌-◌, ◌*◌, ◌<◌, ◌≤◌, Bool, true, false, cond, not, ◌&&◌, ◌||◌, eqb, ltb, leb, ◌≢◌, ◌⊎◌, List, [], ◌∷◌, ◌++◌, length, get_or, take, drop, Ok, Err, Result, sym, refl, ap, ◌∙◌, subst, inl, inr, arith, length-append, length-drop}
+use Rattle.std.proofs.Common.{◌≡◌, ℕ, zero, suc, ◌+◌, ◌<◌, ◌≤◌, Bool, true, false, cond, not, ◌||◌, eqb, ltb, leb, ◌⊎◌, List, [], ◌∷◌, ◌++◌, length, get_or, Ok, Err, Result, sym, refl, ap, ◌∙◌, subst, inl, inr, arith, length-append, length-drop}
 use Rattle.std.proofs.lemmas.List.{drop-append-le, get_or_append_left}
-use Rattle.std.proofs.lemmas.Bool.{cond-true, cond-false, le-ltb, lt-ltb, ltb-true, ltb-false, cases_Bool, cond_both}
+use Rattle.std.proofs.lemmas.Bool.{cond-true, cond-false, le-ltb, lt-ltb, ltb-false, cond_both}
 use Rattle.frames.specs.declared.Cause.{Cause}
 use Rattle.frames.specs.declared.Cause.TheVariants as cause
 use Rattle.frames.specs.declared.FrameFault.{FrameFault}
 use Rattle.frames.specs.declared.plan.Plan.{Plan}
 use Rattle.frames.specs.Contents.{Content, has, plan_byte}
-use Rattle.frames.specs.Contents.Content.{order, token}
-use Rattle.frames.specs.Reading.{Rest, entries_as, decisions_as, and_then, fault_at, out_of_range, next_byte, past_entry, past_count, ended, test, entry_in, token_in, stamp_in, start_at, order_as, lists_as, token_as, read_as, bad_round, bad_votes, bad_proposed, bad_decided}
+use Rattle.frames.specs.Contents.Content.{token}
+use Rattle.frames.specs.Reading.{Rest, entries_as, decisions_as, and_then, fault_at, out_of_range, next_byte, past_entry, past_count, ended, test, token_in, stamp_in, start_at, order_as, lists_as, token_as, read_as, bad_round, bad_votes, bad_proposed, bad_decided}
 use Rattle.frames.specs.Laws.{FrontOf}
 
 front_at : (bs more : List ℕ) (i : ℕ) → i < length bs → get_or (bs ++ more) i 0 ≡ get_or bs i 0

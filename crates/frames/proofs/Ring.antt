@@ -1,5 +1,5 @@
 -- Steps round a ring of n boxes.
-use Rattle.std.proofs.Common.{◌≡◌, ℕ, zero, suc, ◌+◌, ◌-◌, ◌*◌, ◌%◌, ◌≤◌, ap, ◌∙◌, mul-add, arith}
+use Rattle.std.proofs.Common.{◌≡◌, ℕ, ◌+◌, ◌-◌, ◌*◌, ◌%◌, ◌≤◌, ap, ◌∙◌, mul-add, arith}
 use mathlib.Core.Path.{to_path_p}
 use native.Mathlib.Nat.{mod-add-mod, add-mul-mod_self_right}
 use native.Mathlib.Bridge.{le_prop}

@@ -1,13 +1,13 @@
 -- How much lawful contents can hold.
-use Rattle.std.proofs.Common.{◌≡◌, ℕ, zero, suc, ◌+◌, ◌-◌, ◌*◌, ◌/◌, ◌%◌, ◌<◌, ◌≤◌, Bool, true, false, cond, ◌||◌, eqb, ltb, leb, ◌≢◌, ◌⊎◌, List, [], ◌∷◌, ◌++◌, length, sym, refl, ap, ◌∙◌, subst, inl, inr, arith, length-append}
+use Rattle.std.proofs.Common.{◌≡◌, ℕ, zero, suc, ◌+◌, ◌-◌, ◌*◌, ◌/◌, ◌%◌, ◌<◌, ◌≤◌, true, cond, eqb, ltb, ◌≢◌, List, [], ◌∷◌, ◌++◌, length, sym, refl, ap, ◌∙◌, arith, length-append}
 use native.Mathlib.Decide.{ℕ_discrete}
 use Rattle.std.specs.List.{flat_map, AllByRecursion as All}
 use Rattle.std.proofs.lemmas.Bool.Decides.{nat_tests}
 use Rattle.std.proofs.ByRecursion.{All-append}
-use Rattle.std.proofs.lemmas.Bool.{cond-true, cond-false, eq-eqb, ne_eqb, eqb-true, eqb-false, or_left, or_right, or_parts, cases_Bool, le-ltb, lt-ltb, true≢false}
+use Rattle.std.proofs.lemmas.Bool.{cond-true, cond-false, eq-eqb, ne_eqb, or_left, or_right, true≢false}
 use Rattle.frames.specs.declared.plan.Plan.{Plan}
 use Rattle.frames.specs.declared.Entry.{Entry}
-use Rattle.frames.specs.Contents.{Token, Content, Whole, LawfulEntry, LawfulList, LawfulDecision, LawfulToken, Once, InRange, entry_bytes, decision_bytes, ids_of, bytes_of, token_bytes, four_bytes, has, Lawful, plan_byte}
+use Rattle.frames.specs.Contents.{Token, Content, Whole, LawfulEntry, LawfulDecision, LawfulToken, Once, InRange, entry_bytes, decision_bytes, ids_of, bytes_of, token_bytes, has, Lawful}
 use Rattle.frames.specs.Contents.Content.{order, token}
 use Rattle.frames.proofs.Written.{joined_length, whole_entries}
 

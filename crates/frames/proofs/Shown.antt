@@ -1,11 +1,11 @@
 -- A frame that was read shows lawful contents.
-use Rattle.std.proofs.Common.{◌≡◌, ℕ, List, Ok, Err, Result, sym, refl, ap, ◌∙◌}
+use Rattle.std.proofs.Common.{◌≡◌, ℕ, List, Ok, Err, Result, sym, refl}
 use Rattle.frames.specs.declared.FrameFault.{FrameFault}
 use Rattle.frames.specs.declared.plan.Plan.{Plan}
 use Rattle.frames.specs.declared.Frame.{Frame}
 use Rattle.frames.specs.Contents.{Content}
 use Rattle.frames.specs.Reading.{read_as}
-use Rattle.frames.specs.Views.{viewed, view_of, shown, shown_as, ShowsLawful, Shows}
+use Rattle.frames.specs.Views.{viewed, view_of, shown_as, ShowsLawful, Shows}
 use Rattle.frames.proofs.Steps.{no_fault}
 use Rattle.frames.proofs.Back.{Bytes, back}
 

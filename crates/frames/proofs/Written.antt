@@ -1,19 +1,16 @@
 -- What is written reads back.
-use Rattle.std.proofs.Common.{◌≡◌, ℕ, zero, suc, ◌+◌, ◌-◌, ◌*◌, ◌/◌, ◌%◌, ◌^◌, ◌<◌, ◌≤◌, Bool, true, false, cond, not, ◌||◌, eqb, ltb, leb, ◌≢◌, ◌⊎◌, List, [], ◌∷◌, ◌++◌, length, get_or, take, drop, Ok, Err, Result, sym, refl, ap, ◌∙◌, subst, inl, inr, mod-eq_of_lt, arith, length-append}
+use Rattle.std.proofs.Common.{◌≡◌, ℕ, suc, ◌+◌, ◌*◌, ◌/◌, ◌%◌, ◌^◌, ◌<◌, ◌≤◌, false, cond, not, ◌||◌, eqb, ltb, leb, ◌≢◌, ◌⊎◌, List, [], ◌∷◌, ◌++◌, length, get_or, take, drop, Ok, sym, refl, ap, ◌∙◌, inl, inr, mod-eq_of_lt, arith, length-append}
 use native.Mathlib.Nat.{div-add-mod, div-div-eq-div-mul}
 use native.Mathlib.Decide.{ℕ_discrete}
 use Rattle.std.specs.List.{flat_map, AllByRecursion as All}
 use Rattle.std.proofs.lemmas.Bool.Decides.{nat_tests}
 use Rattle.std.proofs.lemmas.List.{append_assoc, drop_at, take_at}
 use Rattle.std.proofs.lemmas.Bool.{cond-false, le-ltb, lt-leb, ne_eqb, or_from}
-use Rattle.frames.specs.declared.FrameFault.{FrameFault}
-use Rattle.frames.specs.declared.Cause.{Cause}
-use Rattle.frames.specs.declared.Cause.TheVariants as cause
 use Rattle.frames.specs.declared.plan.Plan.{Plan}
 use Rattle.frames.specs.declared.Entry.{Entry}
-use Rattle.frames.specs.Contents.{Token, Content, Whole, LawfulEntry, LawfulList, LawfulDecision, LawfulToken, Ascend, Once, InRange, entry_bytes, decision_bytes, ids_of, bytes_of, token_bytes, has, Lawful, Dummy, Round, plan_byte}
+use Rattle.frames.specs.Contents.{Token, Content, Whole, LawfulEntry, LawfulDecision, LawfulToken, Ascend, Once, InRange, entry_bytes, decision_bytes, ids_of, bytes_of, token_bytes, has, Lawful, plan_byte}
 use Rattle.frames.specs.Contents.Content.{order, token}
-use Rattle.frames.specs.Reading.{Rest, entries_as, decisions_as, entries_in, decisions_in, entry_in, and_then, out_of_range, ended, read_as, order_as, token_as, lists_as, token_in, stamp_in, bad_round, bad_votes, bad_proposed, bad_decided, test}
+use Rattle.frames.specs.Reading.{Rest, entries_as, decisions_as, entries_in, decisions_in, entry_in, out_of_range, ended, read_as, order_as, token_as, lists_as, token_in, stamp_in, bad_round, bad_votes, bad_proposed, bad_decided}
 use Rattle.frames.proofs.Steps.{through}
 
 -- the place after so many entries, and the ids met after them

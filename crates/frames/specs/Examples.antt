@@ -4,7 +4,7 @@ use Rattle.std.proofs.Common.{lit≤}
 use Rattle.frames.specs.declared.Cause.TheVariants as cause
 use Rattle.frames.specs.declared.PlanFault.{PlanFault}
 use Rattle.frames.specs.declared.plan.Plan.{Plan}
-use Rattle.frames.specs.Contents.{Content, Token, bytes_of}
+use Rattle.frames.specs.Contents.{Content, bytes_of}
 use Rattle.frames.specs.Contents.Content.{token}
 use Rattle.frames.specs.Rows.{plan_row}
 use Rattle.frames.specs.Reading.{read_as, fault_at}

@@ -9,7 +9,7 @@ use Rattle.history.specs.Tokens.Step.{keep, fresh, decide}
 use Rattle.history.specs.Tokens.Created.{dummy, first}
 use Rattle.history.specs.Histories.{History, In, empty, Agree, Clear}
 use Rattle.history.specs.Shortcuts.{LawfulBut, Split, Repeat, GapOverlooked, VoteSaved, Dropped, Kept, proposed, decided, beside, again, gap_history, vote_history, blind_history, twice_history, kept_history, ShortcutsFail}
-use Rattle.history.proofs.Listed.{at_place, each_in, apart, single_of, from_place, keep_next, keep_over}
+use Rattle.history.proofs.Listed.{at_place, each_in, single_of, from_place, keep_next, keep_over}
 
 -- the decision of a lone entry
 lone : (Fit : Rule ℕ) (f p e : ℕ) → Fit ((e ∷ []) ∷ []) [] → Decide Fit f (p + 1) p (decided e) (proposed f e)

@@ -1,5 +1,5 @@
 -- What a log holds: its decisions, one after the other in one table of entries.
-use Rattle.std.specs.Prelude.{ℕ, ◌+◌, Bool, cond, ◌&&◌, List, [], ◌∷◌, length, take, replicate, Some, None, sum, Option, ◌==◌, nat_le, nat_lt, slice_set}
+use Rattle.std.specs.Prelude.{ℕ, ◌+◌, Bool, cond, ◌&&◌, List, length, take, replicate, Some, None, sum, Option, ◌==◌, nat_le, nat_lt, slice_set}
 use Rattle.std.specs.List.{between}
 use Rattle.frames.specs.declared.Entry.{Entry}
 use Rattle.frames.specs.Contents.{parted}

@@ -1,5 +1,5 @@
 -- An entry of a list of entries, out of their bytes.
-use Rattle.std.proofs.Common.{◌≡◌, ℕ, zero, suc, ◌+◌, ◌-◌, ◌*◌, ◌/◌, ◌<◌, ◌≤◌, List, [], ◌∷◌, ◌++◌, length, get_or, take, drop, Some, sym, refl, ap, ◌∙◌, arith}
+use Rattle.std.proofs.Common.{◌≡◌, ℕ, zero, suc, ◌+◌, ◌-◌, ◌*◌, ◌/◌, ◌<◌, ◌≤◌, List, [], ◌∷◌, ◌++◌, length, get_or, take, drop, Some, sym, ap, ◌∙◌, arith}
 use Rattle.std.specs.List.{flat_map, AllByRecursion as All, slice_get}
 use Rattle.std.proofs.lemmas.List.{drop-drop, drop_at, take_at, get_or-drop}
 use Rattle.std.proofs.lemmas.Option.{slice_get_past}
@@ -7,7 +7,6 @@ use Rattle.frames.specs.declared.Entry.{Entry}
 use Rattle.frames.specs.Contents.{Whole, entry_bytes}
 use Rattle.frames.proofs.Written.{joined_length}
 use Rattle.frames.specs.Reading.{entry_in}
-use Rattle.parts.specs.Going.{entry_at}
 
 pub count_of : (bs : List ℕ) (es : List Entry) → All Whole es → bs ≡ flat_map entry_bytes es → length bs / 9 ≡ length es
 count_of bs es w q = let n = ap length q ∙ joined_length es w in omega arith

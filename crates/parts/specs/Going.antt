@@ -1,5 +1,5 @@
 -- Going through the parts of a frame: entries out of their bytes, and one decision after another.
-use Rattle.std.specs.Prelude.{◌≡◌, ℕ, zero, suc, ◌*◌, ◌/◌, cond, List, [], ◌∷◌, length, take, drop, Some, None, Option, nat_le, nat_lt}
+use Rattle.std.specs.Prelude.{ℕ, zero, suc, ◌*◌, ◌/◌, cond, List, [], ◌∷◌, length, take, drop, Some, None, Option, nat_le, nat_lt}
 use Rattle.std.specs.Option.{option_map}
 use Rattle.frames.specs.declared.Entry.{Entry}
 use Rattle.frames.specs.Reading.{entry_in}

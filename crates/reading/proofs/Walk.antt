@@ -1,17 +1,15 @@
 -- Reading by places in the whole frame, as the code goes.
-use Rattle.std.proofs.Common.{◌≡◌, ℕ, zero, suc, ◌+◌, ◌-◌, ◌*◌, ◌/◌, ◌%◌, ◌<◌, ◌≤◌, Bool, true, false, cond, not, ◌||◌, eqb, ltb, leb, ◌≢◌, ◌⊎◌, List, [], ◌∷◌, ◌++◌, length, get_or, take, drop, set, Ok, Err, Result, sym, refl, ap, ◌∙◌, subst, inl, inr, arith, length-drop, get_or-set_other, get_or-set_same}
+use Rattle.std.proofs.Common.{◌≡◌, ℕ, suc, ◌+◌, ◌-◌, ◌*◌, ◌<◌, ◌≤◌, Bool, true, false, ◌||◌, eqb, ltb, leb, List, ◌∷◌, length, get_or, drop, set, Ok, Err, Result, sym, refl, ap, ◌∙◌, subst, arith, length-drop, get_or-set_other, get_or-set_same}
 use native.Mathlib.Decide.{ℕ_discrete}
-use Rattle.std.proofs.lemmas.Bool.Decides.{nat_tests}
 use Rattle.std.proofs.lemmas.List.{drop-drop, get_or-drop}
-use Rattle.std.proofs.lemmas.Bool.{cond-true, cond-false, le-ltb, lt-ltb, lt-leb, le-leb, ne_eqb, eq-eqb, or_from, or_left, or_right}
-use Rattle.frames.specs.declared.Cause.{Cause}
+use Rattle.std.proofs.lemmas.Bool.{cond-true, cond-false, le-ltb, lt-ltb, ne_eqb, eq-eqb, or_left}
 use Rattle.frames.specs.declared.Cause.TheVariants as cause
 use Rattle.frames.specs.declared.FrameFault.{FrameFault}
 use Rattle.frames.specs.declared.plan.Plan.{Plan}
 use Rattle.frames.specs.Contents.{has}
-use Rattle.frames.proofs.Steps.{no_fault, passed, came}
-use Rattle.frames.proofs.Back.{Entries, entries}
-use Rattle.frames.specs.Reading.{Rest, entries_as, decisions_as, and_then, out_of_range, fault_at, next_byte, past_entry, past_count}
+use Rattle.frames.proofs.Steps.{no_fault}
+use Rattle.frames.proofs.Back.{entries}
+use Rattle.frames.specs.Reading.{Rest, entries_as, decisions_as, and_then, out_of_range, fault_at, next_byte}
 use Rattle.reading.specs.Walking.{Marks, Walked, rest_at}
 
 pub failed : (w : Result Rest FrameFault) (e : FrameFault) (table : List Bool) → w ≡ Err e → Walked w (Err e) table

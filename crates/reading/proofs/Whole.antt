@@ -1,20 +1,20 @@
 -- A whole frame, as the code reads it.
-use Rattle.std.proofs.Common.{◌≡◌, ℕ, zero, suc, ◌+◌, ◌-◌, ◌*◌, ◌<◌, ◌≤◌, Bool, true, false, cond, eqb, ltb, leb, List, [], ◌∷◌, ◌++◌, length, get_or, take, drop, replicate, Ok, Err, Result, sym, refl, ap, ◌∙◌, subst, arith, length-drop}
+use Rattle.std.proofs.Common.{◌≡◌, ℕ, zero, suc, ◌-◌, ◌*◌, ◌<◌, ◌≤◌, Bool, false, eqb, ltb, List, [], ◌++◌, length, get_or, take, drop, replicate, Ok, Err, sym, refl, ap, ◌∙◌, subst, arith, length-drop}
 use Rattle.std.specs.List.{flat_map}
 use Rattle.std.proofs.lemmas.List.{drop-drop, drop_all, take_at, take_rest}
 use Rattle.std.proofs.lemmas.Bool.{cond-true, cond-false, le-ltb, lt-ltb}
 use Rattle.frames.specs.declared.Cause.TheVariants as cause
 use Rattle.frames.specs.declared.FrameFault.{FrameFault}
 use Rattle.frames.specs.declared.plan.Plan.{Plan}
-use Rattle.frames.specs.Contents.{Content, entry_bytes, decision_bytes, ids_of}
+use Rattle.frames.specs.Contents.{Content, entry_bytes, decision_bytes}
 use Rattle.frames.specs.Contents.Content.{order, token}
 use Rattle.frames.specs.Reading.{Rest, entries_as, decisions_as, and_then, fault_at, next_byte, past_count, ended, entry_in, token_in, stamp_in, order_as, lists_as, entries_in, decisions_in}
 use Rattle.reading.specs.Walking.{Marks, Walked, rest_at}
-use Rattle.frames.specs.Views.{View, shown, shown_as}
+use Rattle.frames.specs.Views.{shown_as}
 use Rattle.frames.specs.Views.View.{an_order, a_token}
-use Rattle.frames.proofs.Steps.{no_fault, passed, came, through}
-use Rattle.frames.proofs.Written.{past, append_none}
-use Rattle.frames.proofs.Back.{Entries, entries, Decisions, decisions}
+use Rattle.frames.proofs.Steps.{passed, came, through}
+use Rattle.frames.proofs.Written.{append_none}
+use Rattle.frames.proofs.Back.{entries, decisions}
 use Rattle.reading.proofs.Walk.{entries_rest, walked_ok}
 
 pub none_marked : (n : ℕ) → Marks (replicate n false) []

@@ -1,5 +1,5 @@
 -- What the code's parts promise of one another while they read.
-use Rattle.std.specs.Prelude.{◌≡◌, ℕ, ◌<◌, ◌≤◌, Bool, false, cond, List, length, drop, Some, None, Ok, Err, Option, Result, ◌==◌, slice_index}
+use Rattle.std.specs.Prelude.{◌≡◌, ℕ, ◌≤◌, Bool, cond, List, length, drop, Some, None, Ok, Err, Option, Result, ◌==◌, slice_index}
 use Rattle.frames.specs.declared.FrameFault.{FrameFault}
 use Rattle.frames.specs.declared.plan.Plan.{Plan}
 pub use Rattle.frames.specs.Contents.{Marks}

@@ -1,9 +1,8 @@
 -- A record's lists as a draft.
-use Rattle.std.proofs.Common.{◌≡◌, ℕ, ◌+◌, ◌≤◌, Bool, true, leb, List, length, take, Decides, sum, sym, refl, ap, ◌∙◌, subst, arith, length-take}
+use Rattle.std.proofs.Common.{◌≡◌, ◌≤◌, Bool, true, leb, length, Decides, sum, sym, ap, ◌∙◌, subst, arith, length-take}
 use Rattle.std.proofs.lemmas.Bool.{leb-true, and_parts}
 use Rattle.frames.specs.declared.plan.Plan.{Plan}
-use Rattle.frames.specs.declared.Entry.{Entry}
-use Rattle.frames.specs.Contents.{Token, LawfulToken, parted}
+use Rattle.frames.specs.Contents.{LawfulToken}
 use Rattle.lists.specs.declared.Entries.{Entries}
 use Rattle.lists.specs.Tables.{room, held}
 use Rattle.logs.specs.declared.Log.{Log}

@@ -1,12 +1,12 @@
 -- The parts of a record's rules put together.
-use Rattle.std.proofs.Common.{◌≡◌, ℕ, ◌%◌, ◌≤◌, Bool, true, false, ◌&&◌, eqb, leb, Some, None, Decides, Option, sym, refl, ap, ◌∙◌, subst, arith}
+use Rattle.std.proofs.Common.{◌≡◌, ℕ, ◌%◌, Bool, true, false, ◌&&◌, eqb, Some, None, Decides, Option, sym, ap, ◌∙◌, subst, arith}
 use Rattle.std.specs.Option.{option_map}
 use Rattle.std.proofs.lemmas.Bool.{eqb-true, leb-true, eq-eqb, le-leb, and_parts, and_from, true≢false}
 use Rattle.frames.specs.declared.plan.Plan.{Plan}
 use Rattle.frames.specs.Contents.{LawfulToken, ids_of}
 use Rattle.lists.specs.Tables.{held}
 use Rattle.logs.specs.Logs.{log_of}
-use Rattle.boxes.specs.Boxes.{Turn, Box, Lists, Keeps, log_ids, passed}
+use Rattle.boxes.specs.Boxes.{Turn, Box, Lists, log_ids, passed}
 use Rattle.boxes.specs.Handling.{all_used}
 use Rattle.boxes.proofs.Answering.{decides_all_used}
 use Rattle.records.specs.declared.OpenTurn.{OpenTurn}

@@ -1,5 +1,5 @@
 -- A record that keeps the rules keeps them through the calls of its box.
-use Rattle.std.proofs.Common.{◌≡◌, ℕ, Bool, true, false, None, Option, sym, subst}
+use Rattle.std.proofs.Common.{ℕ, Bool, true, None, Option, sym, subst}
 use Rattle.frames.specs.declared.plan.Plan.{Plan}
 use Rattle.boxes.specs.declared.BoxFault.{BoxFault}
 use Rattle.boxes.specs.Boxes.{Keeps}

@@ -1,5 +1,5 @@
 -- A lawful draft is written, and a record that passes its turn keeps the rules.
-use Rattle.std.proofs.Common.{◌≡◌, ℕ, ◌+◌, ◌≤◌, Bool, true, false, cond, ltb, leb, List, ◌++◌, length, take, drop, Some, None, Ok, Err, Option, Result, sym, refl, ap, ◌∙◌, subst, arith}
+use Rattle.std.proofs.Common.{◌≡◌, ℕ, ◌+◌, ◌≤◌, Bool, true, cond, leb, List, length, take, drop, Some, None, Ok, Option, Result, sym, refl, ap, ◌∙◌, subst, arith}
 use Rattle.std.proofs.lemmas.List.{take_at}
 use Rattle.boxes.proofs.Sending.{frames_read}
 use Rattle.std.proofs.lemmas.Bool.{le-ltb, and_parts, and_from, true≢false}
@@ -19,13 +19,12 @@ use Rattle.writing.proofs.Endings.{faultless}
 use Rattle.writing.specs.declared.WriteFault.{WriteFault}
 use Rattle.writing.specs.declared.WriteFault.TheVariants as refused
 use Rattle.writing.specs.Written.{Writes, refusal, answer, buffer, draft_fault}
-use Rattle.boxes.specs.declared.BoxFault.{BoxFault}
-use Rattle.boxes.specs.Calls.{at_front, pass_fault, pass_call, pass_writes, turn_bytes, refused_or, written_or, is_turn_of}
-use Rattle.boxes.specs.Boxes.{Turn, Box, Keeps, passed}
+use Rattle.boxes.specs.Calls.{at_front, pass_fault, pass_call, pass_writes, turn_bytes, refused_or, written_or}
+use Rattle.boxes.specs.Boxes.{Turn, passed}
 use Rattle.boxes.specs.Handling.{is_open}
 use Rattle.boxes.proofs.Staying.{keeps_passing}
 use Rattle.records.specs.declared.BoxRecord.{BoxRecord}
-use Rattle.records.specs.Records.{box_of, KeepsRules, tables_fit, turn_fits}
+use Rattle.records.specs.Records.{box_of, KeepsRules}
 use Rattle.records.proofs.Drafts.{fitting, lawful_draft, is}
 use Rattle.ring.specs.Calls.{JudgedRow, kept_row}
 use Rattle.turns.specs.Rows.{passed_row}

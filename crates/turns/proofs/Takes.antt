@@ -1,11 +1,11 @@
 -- What a frame makes of a record, by its contents.
-use Rattle.std.proofs.Common.{◌≡◌, ℕ, Bool, true, false, cond, not, ◌&&◌, ◌⊎◌, List, [], Some, None, Ok, Err, Option, Result, sym, refl, ap, ◌∙◌, subst, inl, inr, append-nil, arith}
+use Rattle.std.proofs.Common.{◌≡◌, ℕ, true, false, cond, not, List, [], Some, None, Ok, Err, Option, Result, sym, refl, ap, ◌∙◌, subst, append-nil, arith}
 use Rattle.std.specs.Option.{option_map}
 use Rattle.frames.specs.declared.plan.Plan.{Plan}
 use Rattle.frames.specs.declared.FrameFault.{FrameFault}
 use Rattle.frames.specs.declared.Entry.{Entry}
 use Rattle.frames.specs.Contents.{Token, Content, Lawful, LawfulToken, has}
-use Rattle.frames.specs.Contents.Content.{order, token}
+use Rattle.frames.specs.Contents.Content.{token}
 use Rattle.frames.specs.Reading.{read_as}
 use Rattle.boxes.specs.declared.Outcome.{Outcome}
 use Rattle.boxes.specs.declared.Outcome.TheVariants as outcome

@@ -1,5 +1,5 @@
 -- What a started box makes of a frame's bytes.
-use Rattle.std.specs.Prelude.{◌≡◌, ℕ, Bool, true, false, List, Some, Ok, Err, Result}
+use Rattle.std.specs.Prelude.{◌≡◌, ℕ, false, List, Some, Ok, Err, Result}
 use Rattle.std.specs.List.{ContainsAt as Has, AllByRecursion as All}
 use Rattle.frames.specs.declared.plan.Plan.{Plan}
 use Rattle.frames.specs.declared.Entry.{Entry}
@@ -10,10 +10,9 @@ use Rattle.history.specs.Histories.{History, Begins}
 use Rattle.boxes.specs.declared.Outcome.{Outcome}
 use Rattle.boxes.specs.declared.Outcome.TheVariants as outcome
 use Rattle.boxes.specs.declared.BoxFault.{BoxFault}
-use Rattle.boxes.specs.Boxes.{Turn, Box, Keeps, log_ids, passed}
+use Rattle.boxes.specs.Boxes.{Turn, Box, log_ids, passed}
 use Rattle.boxes.specs.Laws.{Logged, ComesFrom, LoggedFrom, Offered}
 use Rattle.records.specs.declared.BoxRecord.{BoxRecord}
-use Rattle.turns.specs.declared.turn.Turn as turned
 use Rattle.turns.specs.declared.turn.Handled.{Handled}
 use Rattle.turns.specs.declared.turn.Handled.TheVariants as handled
 

@@ -1,5 +1,5 @@
 -- Records after calls that take frames and end turns: what changes, and what stays.
-use Rattle.std.specs.Prelude.{ℕ, ◌+◌, false, None}
+use Rattle.std.specs.Prelude.{◌+◌, false, None}
 use Rattle.frames.specs.declared.Entry.{Entry}
 use Rattle.lists.specs.Tables.{with_entry}
 use Rattle.records.specs.declared.BoxRecord.{BoxRecord}

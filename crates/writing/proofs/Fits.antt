@@ -1,5 +1,5 @@
 -- A token at hand that reads back fits a frame's buffer.
-use Rattle.std.proofs.Common.{◌≡◌, ℕ, suc, ◌+◌, ◌*◌, ◌/◌, ◌%◌, ◌^◌, ◌<◌, ◌≤◌, List, [], ◌∷◌, ◌++◌, length, take, drop, set, Ok, sum, sym, refl, ap, ◌∙◌, subst, arith, length-drop, length-take}
+use Rattle.std.proofs.Common.{◌≡◌, ℕ, ◌+◌, ◌*◌, ◌<◌, ◌≤◌, List, [], ◌∷◌, ◌++◌, length, take, drop, set, Ok, sum, sym, ap, arith, length-drop, length-take}
 use Rattle.std.specs.List.{flat_map, AllByRecursion as All}
 use lib.Seq.{paste}
 use Rattle.std.proofs.lemmas.List.{length-append, take_all}
@@ -7,7 +7,7 @@ use Rattle.std.proofs.ByRecursion.{All-append, All-take, All-drop}
 use Rattle.std.proofs.lemmas.List.Sums.{sum_by-cons}
 use Rattle.frames.specs.declared.plan.Plan.{Plan}
 use Rattle.frames.specs.declared.Entry.{Entry}
-use Rattle.frames.specs.Contents.{Token, Whole, LawfulToken, entry_bytes, decision_bytes, token_bytes, plan_byte, parted}
+use Rattle.frames.specs.Contents.{Token, Whole, LawfulToken, entry_bytes, decision_bytes, token_bytes, parted}
 use Rattle.frames.specs.Contents.Content.{token}
 use Rattle.frames.specs.Reading.{read_as}
 use Rattle.frames.proofs.Written.{joined_length}

@@ -1,5 +1,5 @@
 -- The head of a token that is at hand, as reading takes it.
-use Rattle.std.proofs.Common.{◌≡◌, ℕ, ◌+◌, ◌^◌, ◌<◌, ◌≤◌, Bool, true, false, cond, leb, List, [], ◌∷◌, ◌++◌, length, Some, None, Ok, Err, Option, Result, sym, refl, ap, ◌∙◌, inl, inr, arith}
+use Rattle.std.proofs.Common.{◌≡◌, ℕ, ◌^◌, ◌<◌, ◌≤◌, Bool, true, false, cond, List, ◌∷◌, length, Some, None, Ok, Err, Option, Result, sym, refl, ap, ◌∙◌, inl, inr, arith}
 use Rattle.std.proofs.lemmas.Bool.{cond-true, cond-false, le-ltb, leb-false, eqb-false, or_parts}
 use Rattle.frames.specs.declared.plan.Plan.{Plan}
 use Rattle.frames.specs.declared.Entry.{Entry}
@@ -7,11 +7,11 @@ use Rattle.frames.specs.declared.FrameFault.{FrameFault}
 use Rattle.frames.specs.declared.Cause.{Cause}
 use Rattle.frames.specs.declared.Cause.TheVariants as cause
 use Rattle.frames.specs.Contents.{Token, Content, Whole, token_bytes, bytes_of}
-use Rattle.frames.specs.Contents.Content.{order, token}
-use Rattle.frames.specs.Reading.{read_as, token_as, lists_as, stamp_in, test, bad_round, bad_votes, bad_proposed, bad_decided, out_of_range, fault_at, and_then, ended, entry_in}
+use Rattle.frames.specs.Contents.Content.{order}
+use Rattle.frames.specs.Reading.{read_as, lists_as, stamp_in, test, out_of_range, fault_at, and_then, ended, entry_in}
 use Rattle.frames.proofs.Written.{by_kind, four, written}
-use Rattle.writing.specs.Written.{fault, fault_of, content_fault}
-use Rattle.writing.specs.Checked.{numbers_fault, Listed, Faultless}
+use Rattle.writing.specs.Written.{fault}
+use Rattle.writing.specs.Checked.{numbers_fault}
 
 -- the fault, or else what comes next
 abbrev pub or_next : Option FrameFault → Result Content FrameFault → Result Content FrameFault

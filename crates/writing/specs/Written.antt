@@ -5,7 +5,7 @@ use Rattle.frames.specs.declared.plan.Plan.{Plan}
 use Rattle.frames.specs.declared.FrameFault.{FrameFault}
 use Rattle.frames.specs.declared.Cause.{Cause}
 use Rattle.frames.specs.declared.Cause.TheVariants as cause
-use Rattle.frames.specs.Contents.{Content, Token, frame_most, bytes_of}
+use Rattle.frames.specs.Contents.{Content, frame_most, bytes_of}
 use Rattle.frames.specs.Contents.Content.{token}
 use Rattle.frames.specs.Reading.{read_as}
 use Rattle.frames.specs.Rows.{frame_row}

@@ -1,4 +1,4 @@
-use Rattle.std.proofs.Common.{◌≡◌, ◌-◌, sym, refl, ap, ◌∙◌, arith}
+use Rattle.std.proofs.Common.{sym, ap, ◌∙◌, arith}
 use Rattle.parts.specs.Going.{decision_at}
 use Rattle.parts.proofs.Splits.{past_one, none_past, here, decision_of}
 use Rattle.parts.proofs.decision_at.Goals as goal

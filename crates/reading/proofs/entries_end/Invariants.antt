@@ -1,4 +1,4 @@
-use Rattle.std.proofs.Common.{◌≡◌, ℕ, ◌+◌, ◌-◌, ◌*◌, ◌≤◌, List, length}
+use Rattle.std.proofs.Common.{◌≡◌, ℕ, ◌-◌, ◌≤◌, List, length}
 use Rattle.frames.specs.Reading.{entries_as}
 use Rattle.reading.specs.Walking.{Marks, rest_at}
 use Rattle.reading.proofs.entries_end.Given as goal

@@ -1,4 +1,4 @@
-use Rattle.std.proofs.Common.{◌≡◌, ◌&&◌, sym, refl, ap, ◌∙◌}
+use Rattle.std.proofs.Common.{◌&&◌, sym, ap, ◌∙◌}
 use Rattle.frames.specs.Contents.{ids_of}
 use Rattle.std.specs.List.{flat_map}
 use Rattle.logs.specs.Logs.{log_of}

@@ -1,4 +1,4 @@
-use Rattle.std.proofs.Common.{◌≡◌, sym, arith}
+use Rattle.std.proofs.Common.{sym, arith}
 use Rattle.std.proofs.lemmas.Bool.{true≢false}
 use Rattle.records.proofs.Drafts.{by_draft}
 use Rattle.records.proofs.open_keeps.Goals as goal

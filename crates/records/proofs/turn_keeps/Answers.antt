@@ -1,4 +1,4 @@
-use Rattle.std.proofs.Common.{◌≡◌, true, sym, refl, ap, ◌∙◌, subst}
+use Rattle.std.proofs.Common.{◌≡◌, true, refl, subst}
 use Rattle.records.specs.Records.{box_of, turn_fits}
 use Rattle.records.proofs.Drafts.{fitting}
 use Rattle.records.proofs.Rules.{with_turn, without_turn}

@@ -1,4 +1,4 @@
-use Rattle.std.proofs.Common.{◌≡◌, sym, refl, ap, ◌∙◌}
+use Rattle.std.proofs.Common.{ap, ◌∙◌}
 use Rattle.frames.specs.Contents.Content.{token}
 use Rattle.writing.specs.Parted.{drafted}
 use Rattle.writing.specs.Written.{first_of, content_fault}

@@ -1,4 +1,4 @@
-use Rattle.std.proofs.Common.{◌≡◌, List, [], ◌∷◌, ◌++◌, drop, sym, refl, ap, ◌∙◌, arith}
+use Rattle.std.proofs.Common.{◌∷◌, ◌++◌, drop, sym, ap, ◌∙◌, arith}
 use Rattle.frames.specs.Contents.{entry_bytes}
 use Rattle.frames.specs.Contents.Content.{order}
 use Rattle.writing.proofs.Endings.{short, faulty, done}

@@ -1,4 +1,4 @@
-use Rattle.std.proofs.Common.{◌≡◌, sym, ◌∙◌, arith}
+use Rattle.std.proofs.Common.{sym, arith}
 use Rattle.frames.specs.Contents.Content.{token}
 use Rattle.writing.specs.Parted.{drafted}
 use Rattle.writing.proofs.Endings.{short, faulty, done}

@@ -1,4 +1,4 @@
-use Rattle.std.proofs.Common.{◌≡◌, true, sym, refl, ap, ◌∙◌, subst}
+use Rattle.std.proofs.Common.{◌≡◌, true, ap, subst}
 use Rattle.std.specs.Option.{option_map}
 use Rattle.records.specs.Records.{turn_of, turn_fits}
 use Rattle.records.proofs.Drafts.{fitting}

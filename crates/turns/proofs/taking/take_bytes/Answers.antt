@@ -1,10 +1,10 @@
-use Rattle.std.proofs.Common.{◌≡◌, Ok, Result, sym, ap, ◌∙◌, subst}
+use Rattle.std.proofs.Common.{Ok, Result, sym, ap, ◌∙◌, subst}
 use Rattle.frames.specs.declared.FrameFault.{FrameFault}
 use Rattle.frames.specs.Contents.{Content}
 use Rattle.frames.specs.Contents.Content.{order, token}
 use Rattle.received.specs.declared.Received.{Received}
 use Rattle.received.specs.Received.{token_of, content_of, HoldsLawful}
-use Rattle.turns.proofs.Takes.{Taken, taken, at_started}
+use Rattle.turns.proofs.Takes.{taken, at_started}
 use Rattle.turns.proofs.taking.take_bytes.Goals as goal
 
 pub returns-in-Order : goal.returns-in-Order

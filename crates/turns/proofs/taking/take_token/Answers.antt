@@ -1,4 +1,4 @@
-use Rattle.std.proofs.Common.{◌≡◌, Ok, sym, ap, ◌∙◌}
+use Rattle.std.proofs.Common.{Ok, sym, ap, ◌∙◌}
 use Rattle.received.specs.Received.{token_of}
 use Rattle.turns.proofs.Takes.{idle_learning}
 use Rattle.turns.proofs.taking.take_token.Goals as goal

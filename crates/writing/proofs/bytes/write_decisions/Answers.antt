@@ -1,9 +1,9 @@
-use Rattle.std.proofs.Common.{◌≡◌, ℕ, suc, ◌+◌, ◌-◌, ◌*◌, ◌<◌, ◌≤◌, List, [], ◌∷◌, length, get_or, take, drop, sum, sym, refl, ap, ◌∙◌, arith, length-set}
+use Rattle.std.proofs.Common.{◌≡◌, ◌+◌, ◌*◌, [], length, sum, sym, refl, ap, ◌∙◌, arith, length-set}
 use lib.Seq.{paste}
 use Rattle.std.specs.List.{flat_map}
-use Rattle.std.proofs.lemmas.List.{take_all, length-append}
+use Rattle.std.proofs.lemmas.List.{take_all}
 use Rattle.std.proofs.lemmas.List.Edits.{paste_none}
-use Rattle.frames.specs.Contents.{entry_bytes, decision_bytes, parted}
+use Rattle.frames.specs.Contents.{decision_bytes, parted}
 use Rattle.writing.proofs.Splits.{sum_next, part_length, turn}
 use Rattle.writing.proofs.bytes.write_decisions.Goals as goal
 

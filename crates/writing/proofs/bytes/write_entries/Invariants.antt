@@ -1,4 +1,4 @@
-use Rattle.std.proofs.Common.{◌≡◌, ◌+◌, ◌*◌, length, take}
+use Rattle.std.proofs.Common.{◌≡◌, ◌*◌, length, take}
 use lib.Seq.{paste}
 use Rattle.std.specs.List.{flat_map}
 use Rattle.frames.specs.Contents.{entry_bytes}

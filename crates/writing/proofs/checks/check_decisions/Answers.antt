@@ -1,8 +1,8 @@
-use Rattle.std.proofs.Common.{◌≡◌, ℕ, suc, ◌+◌, ◌-◌, ◌*◌, ◌<◌, ◌≤◌, List, [], ◌∷◌, ◌++◌, length, get_or, take, drop, sum, sym, refl, ap, ◌∙◌, subst, arith}
-use Rattle.std.specs.List.{flat_map, AllByRecursion as All}
+use Rattle.std.proofs.Common.{◌≡◌, ◌-◌, [], ◌++◌, length, drop, sum, sym, refl, ap, ◌∙◌, arith}
+use Rattle.std.specs.List.{flat_map}
 use Rattle.std.proofs.lemmas.List.{drop_all, take_all}
 use Rattle.std.proofs.lemmas.Result.{err_from_is_err_and}
-use Rattle.frames.specs.Contents.{Whole, decision_bytes, parted}
+use Rattle.frames.specs.Contents.{decision_bytes, parted}
 use Rattle.frames.specs.Reading.{decisions_as}
 use Rattle.writing.proofs.Splits.{sum_next}
 use Rattle.writing.proofs.Walked.{all_of}

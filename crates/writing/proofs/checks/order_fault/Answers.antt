@@ -1,4 +1,4 @@
-use Rattle.std.proofs.Common.{◌≡◌, sym, refl, ap, ◌∙◌}
+use Rattle.std.proofs.Common.{sym, ap, ◌∙◌}
 use Rattle.frames.specs.Reading.{out_of_range}
 use Rattle.writing.specs.Written.{fault_of}
 use Rattle.writing.proofs.Heads.{order_bad, order_good}

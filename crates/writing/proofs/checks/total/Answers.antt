@@ -1,4 +1,4 @@
-use Rattle.std.proofs.Common.{◌≡◌, sum, sym, refl, ap, ◌∙◌, arith}
+use Rattle.std.proofs.Common.{sum, ap, ◌∙◌, arith}
 use Rattle.std.proofs.lemmas.List.{take_all}
 use Rattle.writing.proofs.Splits.{sum_next}
 use Rattle.writing.proofs.checks.total.Goals as goal

@@ -1,4 +1,4 @@
-use Rattle.std.proofs.Common.{◌≡◌, ℕ, ◌+◌, ◌-◌, ◌*◌, ◌%◌, ◌<◌, ◌≤◌, sym, ap, subst, mod-lt, arith}
+use Rattle.std.proofs.Common.{◌≡◌, ◌+◌, ◌-◌, ◌*◌, ◌%◌, ◌≤◌, subst, mod-lt, arith}
 use Rattle.frames.proofs.Ring.{back_and_forth}
 use Rattle.frames.proofs.plan.Plan.predecessor.Goals as goal
 

@@ -1,5 +1,4 @@
-use Rattle.std.proofs.Common.{◌≡◌, true, false, None, sym, refl, ap, ◌∙◌, subst}
-use Rattle.records.specs.declared.BoxRecord.{BoxRecord}
+use Rattle.std.proofs.Common.{◌≡◌, true, false, None, sym, refl, ap, subst}
 use Rattle.records.specs.Records.{box_of, KeepsRules}
 use Rattle.boxes.proofs.Staying.{records-stay}
 use Rattle.ring.specs.Seats.{started_row}

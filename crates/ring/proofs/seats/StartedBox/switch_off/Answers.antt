@@ -1,4 +1,4 @@
-use Rattle.std.proofs.Common.{true, false, rules}
+use Rattle.std.proofs.Common.{rules}
 use Rattle.ring.proofs.Staying.{by_off}
 use Rattle.ring.proofs.seats.StartedBox.switch_off.Goals as goal
 

@@ -1,4 +1,4 @@
-use Rattle.std.proofs.Common.{true, false, rules}
+use Rattle.std.proofs.Common.{false, rules}
 use Rattle.ring.proofs.Staying.{by_doubt}
 use Rattle.ring.proofs.seats.StartedBox.trust.Goals as goal
 

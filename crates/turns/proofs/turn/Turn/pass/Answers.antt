@@ -1,4 +1,4 @@
-use Rattle.std.proofs.Common.{◌≡◌, ◌+◌, ◌≤◌, length, sym, refl, ap, ◌∙◌, subst, arith}
+use Rattle.std.proofs.Common.{length, sym, refl, ap, ◌∙◌, subst, arith}
 use Rattle.boxes.specs.Calls.{turn_bytes, at_front}
 use Rattle.records.specs.Records.{box_of, KeepsRules}
 use Rattle.turns.proofs.Endings.{own_seat, answers, row_after, keeps_after, next_fits, writes, reads_back}
