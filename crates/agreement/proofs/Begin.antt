@@ -1,7 +1,7 @@
 -- Set-up over a fresh link begins with the invariant.
 use Rattle.std.proofs.Common.{◌≡◌, ℕ, zero, suc, ◌+◌, ◌-◌, ◌%◌, ◌<◌, ◌≤◌, Bool, true, false, cond, ◌&&◌, eqb, ltb, leb, List, [], ◌∷◌, map, length, get_or, sym, refl, ap, ◌∙◌, subst, ⊎_elim, mod-eq_of_lt, arith}
 use mathlib.Core.List.Memᴰ
-use Rattle.std.specs.List.{range_with_len, AllByRecursion as All}
+use Rattle.std.specs.List.{range_with_len, AllByRecursion}
 use Rattle.std.proofs.lemmas.List.FromFn.{length-map-range_with_len, get_or-map-range_with_len}
 use Rattle.std.proofs.ByRecursion.{All-append, All-map}
 use Rattle.std.proofs.lemmas.Bool.{cond_both, eqb-false, and_parts, leb-true, ltb-true}
@@ -25,11 +25,11 @@ use Rattle.agreement.specs.Arrays.{Machine, State, to_successors, starting_posts
 use Rattle.agreement.proofs.Mails.{posts_kept}
 use Rattle.agreement.proofs.Invariant.{SoundBox, Member, Genuine, Inv}
 
-pub all_counting : (P : ℕ → Type 0) (a n : ℕ) → ((k : ℕ) → a ≤ k → k < a + n → P k) → All P (range_with_len a n)
+pub all_counting : (P : ℕ → Type 0) (a n : ℕ) → ((k : ℕ) → a ≤ k → k < a + n → P k) → AllByRecursion P (range_with_len a n)
 all_counting P a zero h = tt
 all_counting P a (suc n) h = (h a (omega arith) (omega arith), all_counting P (a + 1) n (λ k l u. h k (omega arith) (omega arith)))
 
-all_flat_map : {X Y : Type 0} (P : X → Type 0) (f : Y → List X) (ys : List Y) → All (λ y. All P (f y)) ys → All P (flat (map f ys))
+all_flat_map : {X Y : Type 0} (P : X → Type 0) (f : Y → List X) (ys : List Y) → AllByRecursion (λ y. AllByRecursion P (f y)) ys → AllByRecursion P (flat (map f ys))
 all_flat_map P f [] a = tt
 all_flat_map P f (y ∷ ys) a = All-append P (f y) (flat (map f ys)) a.0 (all_flat_map P f ys a.1)
 
@@ -67,13 +67,13 @@ module _ (p : Plan) where
   Posted : ℕ × List ℕ → Type 0
   Posted q = Genuine p [] begun q.1
 
-  all_known : All Posted (starting_posts p)
+  all_known : AllByRecursion Posted (starting_posts p)
   unfolding Posted
   all_known =
       All-append Posted (to_successors p 0 (bytes_of p (token first_token))) _
       (All-map Posted (λ k. ((0 + k) % p.n, bytes_of p (token first_token))) (range_with_len 1 (p.f + 1)) (all_counting (λ k. Genuine p [] begun (bytes_of p (token first_token))) 1 (p.f + 1) (λ k l u. genuine p [] begun (token first_token) (frames_read.first p) (Memᴰ.head refl))))
       (all_flat_map Posted (λ j. map (λ k. (k, bytes_of p (token (dummy_of j)))) (range_with_len 1 (dummy_reach p j))) (range_with_len 0 p.n)
-      (all_counting (λ j. All Posted (map (λ k. (k, bytes_of p (token (dummy_of j)))) (range_with_len 1 (dummy_reach p j)))) 0 p.n (λ j l u.
+      (all_counting (λ j. AllByRecursion Posted (map (λ k. (k, bytes_of p (token (dummy_of j)))) (range_with_len 1 (dummy_reach p j)))) 0 p.n (λ j l u.
       All-map Posted (λ k. (k, bytes_of p (token (dummy_of j)))) (range_with_len 1 (dummy_reach p j)) (all_counting (λ k. Genuine p [] begun (bytes_of p (token (dummy_of j)))) 1 (dummy_reach p j) (λ k l' u'.
       let r = reaching p j k l' u' in
       genuine p [] begun (token (dummy_of j)) (frames_read.dummies p j r.0 r.1) (Memᴰ.tail (Memᴰ.head refl)))))))
@@ -86,7 +86,7 @@ module _ {R : Type 0} (p : Plan) (machine : Machine R) where
     law = (orders_grow.tokens p []).start p.f;
     boxes = λ i h. subst (SoundBox p begun [] i) (sym (at i h)) (started_sound p i h);
     readings = λ i h. ap (λ l. get_or l i machine.fresh) x.readings ∙ get_or-map-range_with_len (λ j. machine.fresh) 0 p.n i i machine.fresh h (omega arith) ∙ ap (λ (b : Box). after machine machine.fresh (flat b.log)) (sym (at i h));
-    mail = posts_kept (Genuine p [] begun) x.mail (all_known p) (λ y. subst (All (Genuine p [] begun)) (sym (fresh.none_waits y)) tt);
+    mail = posts_kept (Genuine p [] begun) x.mail (all_known p) (λ y. subst (AllByRecursion (Genuine p [] begun)) (sym (fresh.none_waits y)) tt);
   }
     where
       at : (i : ℕ) → i < p.n → box_at t.boxes i ≡ started p i

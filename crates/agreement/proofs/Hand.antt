@@ -1,7 +1,7 @@
 -- A hand keeps the invariant: a turn that opens makes one more token of the history.
 use Rattle.std.proofs.Common.{◌≡◌, ℕ, ◌+◌, ◌-◌, ◌%◌, ◌<◌, ◌≤◌, not, ◌≢◌, List, [], ◌∷◌, length, get_or, set, Some, None, Ok, Err, Option, Result, sym, refl, ap, ◌∙◌, subst, inl, inr, arith}
 use mathlib.Core.List.Memᴰ
-use Rattle.std.specs.List.{range_with_len, ContainsAt as Has, AllByRecursion as All}
+use Rattle.std.specs.List.{range_with_len, ContainsAt as Has, AllByRecursion}
 use Rattle.std.proofs.lemmas.List.{get_or-set_same, get_or-set_other, length-set}
 use Rattle.std.proofs.ByRecursion.{All-weaker, All-get_or, All-map, all_kept_by}
 use Rattle.frames.specs.declared.plan.Plan.{Plan}
@@ -50,7 +50,7 @@ handled_keeps p i b c r b' k l h = subst (Keeps p i) (sym (alone p b c r b' h).1
 handled_grows : (p : Plan) (b : Box) (c : Content) (r : Result Outcome BoxFault) (b' : Box) → Handled p b c r b' → Begins b.log b'.log
 handled_grows p b c r b' h = subst (λ (y : Box). Begins b.log y.log) (sym (alone p b c r b' h).1) (logs_grow p b c).0
 
-sent_left : (sent : List Entry) (log : List (List Entry)) (xs : List Entry) → All (Has sent) xs → All (Has sent) (left log xs)
+sent_left : (sent : List Entry) (log : List (List Entry)) (xs : List Entry) → AllByRecursion (Has sent) xs → AllByRecursion (Has sent) (left log xs)
 sent_left sent log xs a = all_kept_by (λ (e : Entry). not (has e.id (log_ids log))) (Has sent) xs a
 
 module _ {R : Type 0} (p : Plan) (machine : Machine R) where
@@ -134,7 +134,7 @@ module _ {R : Type 0} (p : Plan) (machine : Machine R) where
       sent_unordered = sent_left sent (opened_log p b u) b.unordered sb.sent_unordered;
     }
 
-    posted : All (λ (q : ℕ × List ℕ). Genuine p sent H' q.1) (to_successors p i (bytes_of p (token (passed b' (opened_turn p b u)))))
+    posted : AllByRecursion (λ (q : ℕ × List ℕ). Genuine p sent H' q.1) (to_successors p i (bytes_of p (token (passed b' (opened_turn p b u)))))
     posted =
         All-map (λ (q : ℕ × List ℕ). Genuine p sent H' q.1) (λ k. ((i + k) % p.n, bytes_of p (token (passed b' (opened_turn p b u))))) (range_with_len 1 (p.f + 1))
         (all_counting (λ k. Genuine p sent H' (bytes_of p (token (passed b' (opened_turn p b u))))) 1 (p.f + 1) (λ k l' w.

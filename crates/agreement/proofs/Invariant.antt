@@ -1,7 +1,7 @@
 -- What every run keeps: a history of the tokens made, and what boxes, mail and readings owe to it.
 use Rattle.std.proofs.Common.{◌≡◌, ℕ, ◌+◌, ◌-◌, ◌%◌, ◌<◌, ◌≤◌, ◌≢◌, List, [], ◌∷◌, ◌++◌, length, get_or, drop, set, None, Ok, sym, refl, ap, ◌∙◌, subst, inl, inr, ⊎_elim, arith}
 use mathlib.Core.List.Memᴰ
-use Rattle.std.specs.List.{ContainsAt as Has, AllByRecursion as All}
+use Rattle.std.specs.List.{ContainsAt as Has, AllByRecursion}
 use Rattle.std.proofs.lemmas.List.{get_or-set_same, get_or-set_other, length-set, drop_at}
 use Rattle.std.proofs.ByRecursion.{All-weaker}
 use Rattle.std.proofs.lemmas.Bool.{cases_eq}
@@ -26,7 +26,7 @@ pub record SoundBox (p : Plan) (H : History Entry) (sent : List Entry) (i : ℕ)
   pub idle : b.turn ≡ None
   pub own : (stamp : ℕ) (t : Token Entry) → In H stamp t → 1 ≤ stamp → (stamp - 1) % p.n ≡ i → stamp ≤ b.awaited
   pub logged : Logged H b
-  pub sent_unordered : All (Has sent) b.unordered
+  pub sent_unordered : AllByRecursion (Has sent) b.unordered
 
 -- an order that was sent, or a token that was made
 abbrev pub Member : List Entry → History Entry → Content → Type 0
@@ -56,7 +56,7 @@ logged_same : (H : History Entry) (b b' : Box) → b'.awaited ≡ b.awaited → 
 logged_same H b b' ea el l = record { from = l.from; source = l.source; made = l.made; earlier = subst (λ a. l.from ≤ a) (sym ea) l.earlier; same = el ∙ l.same }
 
 -- a box stays sound as its log and awaited round stay
-pub sound_same : (p : Plan) (H : History Entry) (sent : List Entry) (i : ℕ) (b b' : Box) → SoundBox p H sent i b → Keeps p i b' → b'.turn ≡ None → b'.awaited ≡ b.awaited → b'.log ≡ b.log → All (Has sent) b'.unordered → SoundBox p H sent i b'
+pub sound_same : (p : Plan) (H : History Entry) (sent : List Entry) (i : ℕ) (b b' : Box) → SoundBox p H sent i b → Keeps p i b' → b'.turn ≡ None → b'.awaited ≡ b.awaited → b'.log ≡ b.log → AllByRecursion (Has sent) b'.unordered → SoundBox p H sent i b'
 sound_same p H sent i b b' k keeps idle ea el u = record {
   keeps = keeps;
   idle = idle;

@@ -1,6 +1,6 @@
 -- What holds of each frame that waits stays so as frames are posted and taken out.
 use Rattle.std.proofs.Common.{◌≡◌, ℕ, suc, ◌+◌, true, false, List, [], ◌∷◌, ◌++◌, length, take, drop, sym, refl, ◌∙◌, subst, ⊎_elim, arith}
-use Rattle.std.specs.List.{AllByRecursion as All}
+use Rattle.std.specs.List.{AllByRecursion}
 use Rattle.std.proofs.ByRecursion.{All-append, All-push, All-take, All-drop}
 use Rattle.std.proofs.lemmas.Bool.{cases_eq, true≢false}
 use Rattle.links.specs.Mail.{Mail}
@@ -9,7 +9,7 @@ use Rattle.agreement.specs.Mail.{Posts, NoneMissed}
 use Rattle.agreement.specs.Mail.Posts.{done, made, missed}
 
 abbrev pub Mails : (List ℕ → Type 0) → Mail → Type 0
-Mails P m = (x : ℕ) → All P (m.waiting x)
+Mails P m = (x : ℕ) → AllByRecursion P (m.waiting x)
 
 recount : {xs : List (ℕ × List ℕ)} {m m' : Mail} (j k : ℕ) → j ≡ k → Posts xs m j m' → Posts xs m k m'
 recount {xs} {m} {m'} j k e r = subst (λ n. Posts xs m n m') e r
@@ -47,17 +47,17 @@ room_left (missed {to = to} f r) h = absurd (true≢false (sym (stays_full to r 
 module _ (P : List ℕ → Type 0) where
   pub appended_kept : (m m' : Mail) (j : ℕ) (b : List ℕ) → P b → Appended m j b m' → Mails P m → Mails P m'
   appended_kept m m' j b p a h x = ⊎_elim
-      (λ (e : x ≡ j). subst (λ y. All P (m'.waiting y)) (sym e) (subst (All P) (sym a.own) (All-push P (m.waiting j) b (h j) p)))
-      (λ (ne : x ≡ j → ⊥). subst (All P) (sym (a.others x ne)) (h x))
+      (λ (e : x ≡ j). subst (λ y. AllByRecursion P (m'.waiting y)) (sym e) (subst (AllByRecursion P) (sym a.own) (All-push P (m.waiting j) b (h j) p)))
+      (λ (ne : x ≡ j → ⊥). subst (AllByRecursion P) (sym (a.others x ne)) (h x))
       (cases_eq x j)
 
   pub taken_kept : (m m' : Mail) (i place : ℕ) → Taken m i place m' → Mails P m → Mails P m'
   taken_kept m m' i place t h x = ⊎_elim
-      (λ (e : x ≡ i). subst (λ y. All P (m'.waiting y)) (sym e) (subst (All P) (sym t.own) (All-append P (take place (m.waiting i)) (drop (suc place) (m.waiting i)) (All-take P place (m.waiting i) (h i)) (All-drop P (suc place) (m.waiting i) (h i)))))
-      (λ (ne : x ≡ i → ⊥). subst (All P) (sym (t.others x ne)) (h x))
+      (λ (e : x ≡ i). subst (λ y. AllByRecursion P (m'.waiting y)) (sym e) (subst (AllByRecursion P) (sym t.own) (All-append P (take place (m.waiting i)) (drop (suc place) (m.waiting i)) (All-take P place (m.waiting i) (h i)) (All-drop P (suc place) (m.waiting i) (h i)))))
+      (λ (ne : x ≡ i → ⊥). subst (AllByRecursion P) (sym (t.others x ne)) (h x))
       (cases_eq x i)
 
-  pub posts_kept : {xs : List (ℕ × List ℕ)} {m m' : Mail} {k : ℕ} → Posts xs m k m' → All (λ (q : ℕ × List ℕ). P q.1) xs → Mails P m → Mails P m'
+  pub posts_kept : {xs : List (ℕ × List ℕ)} {m m' : Mail} {k : ℕ} → Posts xs m k m' → AllByRecursion (λ (q : ℕ × List ℕ). P q.1) xs → Mails P m → Mails P m'
   posts_kept done a h = h
   posts_kept (made {to = to} {frame = frame} {m = m} {m₁ = m₁} nf ap' r) a h = posts_kept r a.1 (appended_kept m m₁ to frame a.0 ap' h)
   posts_kept (missed f r) a h = posts_kept r a.1 h

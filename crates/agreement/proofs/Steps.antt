@@ -1,6 +1,6 @@
 -- Each call but a hand keeps the invariant.
 use Rattle.std.proofs.Common.{◌≡◌, ℕ, ◌<◌, not, eqb, List, [], ◌∷◌, length, get_or, set, Ok, Err, filter, Result, sym, refl, ap, ◌∙◌, subst, arith}
-use Rattle.std.specs.List.{range_with_len, ContainsAt as Has, AllByRecursion as All}
+use Rattle.std.specs.List.{range_with_len, ContainsAt as Has, AllByRecursion}
 use Rattle.std.proofs.ByRecursion.{All-weaker, All-get_or, All-map, has_append_right, all_kept_by}
 use Rattle.frames.specs.declared.plan.Plan.{Plan}
 use Rattle.frames.specs.declared.Entry.{Entry}
@@ -85,7 +85,7 @@ module _ {R : Type 0} (p : Plan) (machine : Machine R) where
       sb : SoundBox p H sent i b
       sb = v.boxes i low
 
-      posted : All (λ (q : ℕ × List ℕ). Genuine p more H q.1) (to_others p i (bytes_of p (order e)))
+      posted : AllByRecursion (λ (q : ℕ × List ℕ). Genuine p more H q.1) (to_others p i (bytes_of p (order e)))
       posted =
           All-map (λ (q : ℕ × List ℕ). Genuine p more H q.1) (λ j. (j, bytes_of p (order e))) (filter (λ j. not (eqb j i)) (range_with_len 0 p.n))
           (all_kept_by (λ j. not (eqb j i)) (λ j. Genuine p more H (bytes_of p (order e))) (range_with_len 0 p.n) (all_counting (λ j. Genuine p more H (bytes_of p (order e))) 0 p.n (λ k l u.

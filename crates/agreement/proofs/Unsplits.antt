@@ -1,6 +1,6 @@
 -- Where the invariant holds, the array is unsplit.
 use Rattle.std.proofs.Common.{◌≡◌, ℕ, zero, suc, ◌<◌, ◌≤◌, ltb, List, [], ◌∷◌, length, take, sym, refl, ap, ◌∙◌, subst, arith}
-use Rattle.std.specs.List.{ContainsAt as Has, AllByRecursion as All}
+use Rattle.std.specs.List.{ContainsAt as Has, AllByRecursion}
 use Rattle.std.proofs.lemmas.List.{take_at}
 use Rattle.std.proofs.lemmas.Bool.{cond_both, ltb-true, ltb-false}
 use Rattle.frames.specs.declared.plan.Plan.{Plan}
@@ -49,6 +49,6 @@ module _ {R : Type 0} (p : Plan) (machine : Machine R) where
   unsplit H sent s v = record {
     agree = logs_agree H sent s v;
     once = λ i h. (v.boxes i h).keeps.lists.once;
-    sent_first = λ i h. let l = (v.boxes i h).logged in subst (λ d. All (Has sent) (flat d)) (sym l.same) ((orders_agree p sent H v.law).uninvented l.from l.source l.made).1;
+    sent_first = λ i h. let l = (v.boxes i h).logged in subst (λ d. AllByRecursion (Has sent) (flat d)) (sym l.same) ((orders_agree p sent H v.law).uninvented l.from l.source l.made).1;
     readings = λ i h. v.readings i h ∙ ap (λ l. after machine machine.fresh l) (sym (first_of_longest H sent s v i h));
   }

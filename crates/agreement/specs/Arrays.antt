@@ -1,6 +1,6 @@
 -- An array of boxes: what each call may do to the boxes, the machines' readings and the mail.
 use Rattle.std.specs.Prelude.{◌≡◌, ℕ, ◌+◌, ◌%◌, ◌<◌, ◌≤◌, true, false, not, ◌⊎◌, List, [], ◌∷◌, ◌++◌, map, length, drop, Some, None, Ok, Err, filter, Result, ◌==◌, slice_index_or, slice_set}
-use Rattle.std.specs.List.{range_with_len, AllByRecursion as All}
+use Rattle.std.specs.List.{range_with_len, AllByRecursion}
 use Rattle.frames.specs.declared.FrameFault.{FrameFault}
 use Rattle.frames.specs.declared.Cause.TheVariants.{Length}
 use Rattle.frames.specs.declared.plan.Plan.{Plan}
@@ -105,7 +105,7 @@ Uncallable p s i fault.Rounds = ⊥
 -- A body is eight bytes.
 pub record Body (body : List ℕ) : Type 0 where
   pub eight : length body ≡ 8
-  pub bytes : All (λ x. x < 256) body
+  pub bytes : AllByRecursion (λ x. x < 256) body
 
 -- Just box i is changed, by a function.
 pub record Changed {R : Type 0} (i : ℕ) (change : Box → Box) (s t : State R) : Type 0 where

@@ -1,6 +1,6 @@
 -- Runs of calls from a set-up over a fresh link, and what every run keeps.
 use Rattle.std.specs.Prelude.{◌≡◌, ℕ, ◌<◌, cond, ◌≢◌, ◌⊎◌, List, [], ◌∷◌, ◌++◌, length, take, Ok, Err, Result, nat_lt}
-use Rattle.std.specs.List.{ContainsAt as Has, AllByRecursion as All}
+use Rattle.std.specs.List.{ContainsAt as Has, AllByRecursion}
 use Rattle.frames.specs.declared.plan.Plan.{Plan}
 use Rattle.frames.specs.declared.Entry.{Entry}
 use Rattle.frames.specs.Contents.{Once}
@@ -48,7 +48,7 @@ module _ {R : Type 0} (p : Plan) (machine : Machine R) where
     -- No id stands twice in a log.
     pub once : (i : ℕ) → i < p.n → Once [] (log_ids (log_at s i))
     -- Every entry of a log was made by a send.
-    pub sent_first : (i : ℕ) → i < p.n → All (Has sent) (flat (log_at s i))
+    pub sent_first : (i : ℕ) → i < p.n → AllByRecursion (Has sent) (flat (log_at s i))
     -- Each machine reads as a fresh one told the longest log's first entries, as many as its own box has logged.
     pub readings : (i : ℕ) → i < p.n → reading_at p machine s i ≡ after machine machine.fresh (take (length (flat (log_at s i))) (longest s.boxes))
 

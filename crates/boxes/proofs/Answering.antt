@@ -1,6 +1,6 @@
 -- The answer as a function fits the cases, and nothing else does.
 use Rattle.std.proofs.Common.{◌≡◌, ℕ, ◌+◌, ◌/◌, ◌%◌, ◌<◌, ◌≤◌, Bool, true, false, not, ◌&&◌, ◌||◌, eqb, ltb, leb, ◌≢◌, ◌⊎◌, List, [], ◌∷◌, length, Some, None, Ok, Err, Decides, Option, Result, sym, refl, ap, ◌∙◌, inl, inr, ⊎_elim, arith}
-use Rattle.std.specs.List.{AllByRecursion as All}
+use Rattle.std.specs.List.{AllByRecursion}
 use Rattle.std.proofs.lemmas.Bool.Decides.{Decides-eqb, Decides-and, Decides-or, Decides-not, Decides-ltb, Decides-like, not_from_Decides}
 use Rattle.std.proofs.lemmas.Bool.{true≢false, false≢true, leb-true, le-leb, cases_eq}
 use Rattle.frames.specs.declared.plan.Plan.{Plan}
@@ -54,7 +54,7 @@ decides_used b i = Decides-like (used b i)
     back : Used b i → (i / 16 ≡ b.seat → ⊥) ⊎ (i % 16 ≤ b.last)
     back u = elim (cases_eq (i / 16) b.seat) [ inl q ↦ inr (u q) | inr n ↦ inl n ]
 
-pub decides_all_used : (b : Box) (is : List ℕ) → Decides (all_used b is) (All (Used b) is)
+pub decides_all_used : (b : Box) (is : List ℕ) → Decides (all_used b is) (AllByRecursion (Used b) is)
 decides_all_used b [] = (λ _. tt, λ _. refl)
 decides_all_used b (i ∷ is) = Decides-and (used b i) (all_used b is) (decides_used b i) (decides_all_used b is)
 

@@ -1,6 +1,6 @@
 -- Ids of entries: ascending, once, apart; what is left of a list, and what is inserted.
 use Rattle.std.proofs.Common.{◌≡◌, ℕ, ◌+◌, ◌%◌, ◌<◌, ◌≤◌, false, not, eqb, ltb, ◌≢◌, List, [], ◌∷◌, ◌++◌, sym, refl, ap, ◌∙◌, mod-eq_of_lt, arith}
-use Rattle.std.specs.List.{AllByRecursion as All}
+use Rattle.std.specs.List.{AllByRecursion}
 use Rattle.std.proofs.lemmas.List.{flat_map_more}
 use Rattle.std.proofs.ByRecursion.{all_kept_by}
 use Rattle.std.proofs.lemmas.Bool.Decides.{nat_tests}
@@ -14,11 +14,11 @@ use Rattle.boxes.specs.Turns.{left, inserted}
 use Rattle.boxes.specs.Laws.{ListsAsToken}
 
 module _ {X : Type 0} (P : X → Type 0) where
-  pub all_front : (xs ys : List X) → All P (xs ++ ys) → All P xs
+  pub all_front : (xs ys : List X) → AllByRecursion P (xs ++ ys) → AllByRecursion P xs
   all_front [] ys a = tt
   all_front (x ∷ xs) ys a = (a.0, all_front xs ys a.1)
 
-  pub all_back : (xs ys : List X) → All P (xs ++ ys) → All P ys
+  pub all_back : (xs ys : List X) → AllByRecursion P (xs ++ ys) → AllByRecursion P ys
   all_back [] ys a = a
   all_back (x ∷ xs) ys a = all_back xs ys a.1
 
@@ -28,9 +28,9 @@ ids_more log d = sym (flat_map_more ids_of [] log d)
 
 -- what is left of a list
 
-pub ids_left : (P : ℕ → Type 0) (log : List (List Entry)) (xs : List Entry) → All P (ids_of xs) → All P (ids_of (left log xs))
+pub ids_left : (P : ℕ → Type 0) (log : List (List Entry)) (xs : List Entry) → AllByRecursion P (ids_of xs) → AllByRecursion P (ids_of (left log xs))
 ids_left P log [] a = tt
-ids_left P log (x ∷ xs) a = cond_both (not (has x.id (log_ids log))) (x ∷ left log xs) (left log xs) (λ l. All P (ids_of l)) (λ _. (a.0, ids_left P log xs a.1)) (λ _. ids_left P log xs a.1)
+ids_left P log (x ∷ xs) a = cond_both (not (has x.id (log_ids log))) (x ∷ left log xs) (left log xs) (λ l. AllByRecursion P (ids_of l)) (λ _. (a.0, ids_left P log xs a.1)) (λ _. ids_left P log xs a.1)
 
 pub ascend_weaker : (l m : ℕ) (is : List ℕ) → l ≤ m → Ascend m is → Ascend l is
 ascend_weaker l m [] h a = tt
@@ -43,10 +43,10 @@ ascend_left last log (x ∷ xs) a =
     (λ _. (a.0, ascend_left x.id log xs a.1))
     (λ _. ascend_weaker last x.id (ids_of (left log xs)) (omega (arith, a.0)) (ascend_left x.id log xs a.1))
 
-pub apart_left : (log : List (List Entry)) (xs : List Entry) → All (λ i. has i (log_ids log) ≡ false) (ids_of (left log xs))
+pub apart_left : (log : List (List Entry)) (xs : List Entry) → AllByRecursion (λ i. has i (log_ids log) ≡ false) (ids_of (left log xs))
 apart_left log [] = tt
 apart_left log (x ∷ xs) =
-    cond_both (not (has x.id (log_ids log))) (x ∷ left log xs) (left log xs) (λ l. All (λ i. has i (log_ids log) ≡ false) (ids_of l))
+    cond_both (not (has x.id (log_ids log))) (x ∷ left log xs) (left log xs) (λ l. AllByRecursion (λ i. has i (log_ids log) ≡ false) (ids_of l))
     (λ e. (not-true (has x.id (log_ids log)) e, apart_left log xs))
     (λ _. apart_left log xs)
 
@@ -54,19 +54,19 @@ pub lawful_left : (p : Plan) (log : List (List Entry)) (xs : List Entry) → Law
 lawful_left p log xs l = record { each = all_kept_by (λ (e : Entry). not (has e.id (log_ids log))) (LawfulEntry p) xs l.each; ascend = ascend_left 0 log xs l.ascend }
 
 -- entries that are not in the log are all left
-pub left_all : (log : List (List Entry)) (xs : List Entry) → All (λ i. has i (log_ids log) ≡ false) (ids_of xs) → left log xs ≡ xs
+pub left_all : (log : List (List Entry)) (xs : List Entry) → AllByRecursion (λ i. has i (log_ids log) ≡ false) (ids_of xs) → left log xs ≡ xs
 left_all log [] a = refl
 left_all log (x ∷ xs) a = cond-true (not (has x.id (log_ids log))) (x ∷ left log xs) (left log xs) (not_from_false _ a.0) ∙ ap (λ l. x ∷ l) (left_all log xs a.1)
 
 -- an entry is inserted
 
-pub all_inserted : (P : Entry → Type 0) (e : Entry) (xs : List Entry) → P e → All P xs → All P (inserted e xs)
+pub all_inserted : (P : Entry → Type 0) (e : Entry) (xs : List Entry) → P e → AllByRecursion P xs → AllByRecursion P (inserted e xs)
 all_inserted P e [] pe a = (pe, tt)
-all_inserted P e (x ∷ xs) pe a = cond_both (ltb e.id x.id) (e ∷ x ∷ xs) (x ∷ inserted e xs) (All P) (λ _. (pe, a)) (λ _. (a.0, all_inserted P e xs pe a.1))
+all_inserted P e (x ∷ xs) pe a = cond_both (ltb e.id x.id) (e ∷ x ∷ xs) (x ∷ inserted e xs) (AllByRecursion P) (λ _. (pe, a)) (λ _. (a.0, all_inserted P e xs pe a.1))
 
-pub ids_inserted : (P : ℕ → Type 0) (e : Entry) (xs : List Entry) → P e.id → All P (ids_of xs) → All P (ids_of (inserted e xs))
+pub ids_inserted : (P : ℕ → Type 0) (e : Entry) (xs : List Entry) → P e.id → AllByRecursion P (ids_of xs) → AllByRecursion P (ids_of (inserted e xs))
 ids_inserted P e [] pe a = (pe, tt)
-ids_inserted P e (x ∷ xs) pe a = cond_both (ltb e.id x.id) (e ∷ x ∷ xs) (x ∷ inserted e xs) (λ l. All P (ids_of l)) (λ _. (pe, a)) (λ _. (a.0, ids_inserted P e xs pe a.1))
+ids_inserted P e (x ∷ xs) pe a = cond_both (ltb e.id x.id) (e ∷ x ∷ xs) (x ∷ inserted e xs) (λ l. AllByRecursion P (ids_of l)) (λ _. (pe, a)) (λ _. (a.0, ids_inserted P e xs pe a.1))
 
 ascend_inserted : (last : ℕ) (e : Entry) (xs : List Entry) → last < e.id → has e.id (ids_of xs) ≡ false → Ascend last (ids_of xs) → Ascend last (ids_of (inserted e xs))
 ascend_inserted last e [] l h a = (l, tt)
@@ -89,7 +89,7 @@ lawful_inserted p e xs l h a = record { each = all_inserted (LawfulEntry p) e xs
 -- no id twice
 
 -- ascending ids beside ids that stand once, none in both
-pub once_beside : (xs ys : List ℕ) → Ascend 0 xs → All (λ i. has i ys ≡ false) xs → Once [] ys → Once [] (xs ++ ys)
+pub once_beside : (xs ys : List ℕ) → Ascend 0 xs → AllByRecursion (λ i. has i ys ≡ false) xs → Once [] ys → Once [] (xs ++ ys)
 once_beside xs ys a ap' o =
     fewer_once [] (xs ++ ys) (λ i.
     let m = (once_fewer [] ys o i).most in
@@ -105,11 +105,11 @@ pub once_swap : (xs ys : List ℕ) → Once [] (xs ++ ys) → Once [] (ys ++ xs)
 once_swap xs ys o =
     fewer_once [] (ys ++ xs) (λ i. let m = (once_fewer [] (xs ++ ys) o i).most in let s = count_append i xs ys in let r = count_append i ys xs in record { most = omega arith; apart = λ l. absurd (omega arith) })
 
-fewer_apart : (xs ys : List ℕ) → ((i : ℕ) → count i xs + count i ys ≤ 1) → All (λ i. has i ys ≡ false) xs
+fewer_apart : (xs ys : List ℕ) → ((i : ℕ) → count i xs + count i ys ≤ 1) → AllByRecursion (λ i. has i ys ≡ false) xs
 fewer_apart [] ys h = tt
 fewer_apart (x ∷ xs) ys h = (none_has x ys (let m = h x in grind (arith, nat_tests)), fewer_apart xs ys (λ i. let m = h i in grind (arith, nat_tests)))
 
-pub once_apart : (xs ys : List ℕ) → Once [] (xs ++ ys) → All (λ i. has i ys ≡ false) xs
+pub once_apart : (xs ys : List ℕ) → Once [] (xs ++ ys) → AllByRecursion (λ i. has i ys ≡ false) xs
 once_apart xs ys o = fewer_apart xs ys (λ i. let m = (once_fewer [] (xs ++ ys) o i).most in let s = count_append i xs ys in omega arith)
 
 -- a record's lists as a token

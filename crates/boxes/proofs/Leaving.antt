@@ -1,6 +1,6 @@
 -- The unordered entries after contents are those before, and the order that is kept, but for those in the log.
 use Rattle.std.proofs.Common.{◌≡◌, ℕ, zero, suc, true, false, not, ltb, ◌⊎◌, List, [], ◌∷◌, None, Ok, Err, Result, sym, refl, ap, subst, inl, inr, ⊎_elim, arith}
-use Rattle.std.specs.List.{ContainsAt as Has, AllByRecursion as All}
+use Rattle.std.specs.List.{ContainsAt as Has, AllByRecursion}
 use Rattle.std.proofs.ByRecursion.{all-has, has_append_right}
 use Rattle.std.proofs.lemmas.Bool.{cond_both, not-true, not-false, both_ways}
 use Rattle.frames.specs.declared.plan.Plan.{Plan}
@@ -29,7 +29,7 @@ module _ {X : Type 0} where
   has_tail : (y : X) (ys : List X) (x : X) → Has ys x → Has (y ∷ ys) x
   has_tail y ys x h = has_append_right (y ∷ []) ys x h
 
-ids_each : (P : ℕ → Type 0) (xs : List Entry) → All P (ids_of xs) → All (λ (e : Entry). P e.id) xs
+ids_each : (P : ℕ → Type 0) (xs : List Entry) → AllByRecursion P (ids_of xs) → AllByRecursion (λ (e : Entry). P e.id) xs
 ids_each P [] a = tt
 ids_each P (x ∷ xs) a = (a.0, ids_each P xs a.1)
 

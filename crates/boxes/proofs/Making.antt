@@ -1,6 +1,6 @@
 -- The token of an opened turn comes about in one of the four ways of a history.
 use Rattle.std.proofs.Common.{◌≡◌, ℕ, ◌+◌, ◌<◌, ◌≤◌, not, List, length, Ok, refl, ap, ◌∙◌, subst, inl, inr, arith}
-use Rattle.std.specs.List.{ContainsAt as Has, AllByRecursion as All}
+use Rattle.std.specs.List.{ContainsAt as Has, AllByRecursion}
 use Rattle.std.proofs.ByRecursion.{all_kept_by}
 use Rattle.frames.specs.declared.plan.Plan.{Plan}
 use Rattle.frames.specs.declared.Entry.{Entry}
@@ -31,7 +31,7 @@ pub opens_near : (p : Plan) (b : Box) (t : Token) → Opens p b t → (t.stamp <
 opens_near p b t (inl e) = (omega arith, omega arith)
 opens_near p b t (inr x) = let l = x.1 in let u = x.2 in (omega arith, omega arith)
 
-module _ (p : Plan) (i : ℕ) (b : Box) (t : Token) (k : Keeps p i b) (sent : List Entry) (s : All (Has sent) b.unordered) (H : History Entry) (from : Logged H b) where
+module _ (p : Plan) (i : ℕ) (b : Box) (t : Token) (k : Keeps p i b) (sent : List Entry) (s : AllByRecursion (Has sent) b.unordered) (H : History Entry) (from : Logged H b) where
   -- what a log leaves may be put forward beside it
   puts : (log : List (List Entry)) (turn : Turn) → turn ≡ renewed b log → Put p sent log turn.proposal
   puts log turn e = rw e (record {

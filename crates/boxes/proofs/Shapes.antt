@@ -2,7 +2,7 @@
 use Rattle.std.proofs.Common.{◌≡◌, ℕ, ◌+◌, ◌-◌, ◌%◌, ◌<◌, ◌≤◌, Bool, true, false, cond, not, ◌&&◌, eqb, ◌≢◌, List, [], ◌∷◌, ◌++◌, length, sym, refl, ap, ◌∙◌, ⊎_elim, append-nil, mod-lt, arith}
 use mathlib.Core.List.{cons≢nil}
 use native.Mathlib.Decide.{ℕ_discrete}
-use Rattle.std.specs.List.{AllByRecursion as All}
+use Rattle.std.specs.List.{AllByRecursion}
 use Rattle.std.proofs.ByRecursion.{All-append, All-push}
 use Rattle.std.proofs.lemmas.Bool.{eqb-true, eqb-false, ltb-true, ltb-false, and_parts, and_cases, cases_eq, not-true, not-false}
 use Rattle.frames.specs.declared.plan.Plan.{Plan}
@@ -118,9 +118,9 @@ grows p b t log turn ag (is_decide r) = rw r.logged (begins_more b.log t.decisio
 
 -- what a log must have for a box to take it
 pub record Fine (p : Plan) (b : Box) (log : List (List Entry)) : Type 0 where
-  pub decided : All (LawfulDecision p) log
+  pub decided : AllByRecursion (LawfulDecision p) log
   pub once : Once [] (log_ids log)
-  pub used : All (Used b) (log_ids log)
+  pub used : AllByRecursion (Used b) (log_ids log)
 
 -- what a turn must have beside its log for its token to be lawful
 pub record SoundTurn (p : Plan) (log : List (List Entry)) (turn : Turn) : Type 0 where
@@ -140,7 +140,7 @@ votes_kept v w f g one most joined skipped ne = ⊎_elim
     (λ e. let h = skipped e in (omega arith, omega arith))
     (cases_eq g 1)
 
-module _ (p : Plan) (i : ℕ) (b : Box) (t : Token) (k : Keeps p i b) (l : LawfulToken p t) (u : All (Used b) (token_ids t)) where
+module _ (p : Plan) (i : ℕ) (b : Box) (t : Token) (k : Keeps p i b) (l : LawfulToken p t) (u : AllByRecursion (Used b) (token_ids t)) where
   fine_log : Fine p b b.log
   fine_log = record { decided = k.lists.decisions; once = k.lists.once; used = k.logged_used }
 

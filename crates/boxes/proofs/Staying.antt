@@ -1,7 +1,7 @@
 -- A started record keeps the rules, and every call keeps them.
 use Rattle.std.proofs.Common.{◌≡◌, ℕ, ◌+◌, ◌%◌, ◌<◌, ◌≤◌, Bool, true, false, cond, not, ◌&&◌, eqb, leb, List, [], ◌∷◌, length, Some, None, Ok, Err, Option, Result, sym, refl, ap, ◌∙◌, subst, mod-lt, mod-eq_of_lt, arith}
 use native.Mathlib.Nat.{mod_self, add-mod_right}
-use Rattle.std.specs.List.{AllByRecursion as All}
+use Rattle.std.specs.List.{AllByRecursion}
 use Rattle.std.proofs.ByRecursion.{All-weaker}
 use Rattle.std.proofs.lemmas.Bool.{cond_both, ne_eqb, eqb-true, or_from, leb-false}
 use Rattle.frames.specs.declared.plan.Plan.{Plan}
@@ -69,7 +69,7 @@ module _ (p : Plan) (i : ℕ) (b : Box) (k : Keeps p i b) where
     turns = ts;
   }
 
-  keeps_opened : (t : Token) → LawfulToken p t → All (Used b) (token_ids t) → b.awaited ≤ 999999 → Keeps p i (opened p b t)
+  keeps_opened : (t : Token) → LawfulToken p t → AllByRecursion (Used b) (token_ids t) → b.awaited ≤ 999999 → Keeps p i (opened p b t)
   keeps_opened t l u time =
       keeps_logging (opened_log p b t) (Some (opened_turn p b t)) (fine p i b t k l u (opened_log p b t) (opened_turn p b t) (shape p b t))
       (λ y e. let q : opened_turn p b t ≡ y = cc in subst (λ z. LawfulToken p (passed (opened p b t) z)) q (lawful_turn p i b t k l u time))
@@ -118,17 +118,17 @@ module _ (p : Plan) (i : ℕ) (b : Box) (k : Keeps p i b) where
   by_contents (token t) l = by_token t l (answer p b (token t)) (box_after p b (token t)) (fit p b (token t))
 
   -- the box's next id is new to it
-  pub unused : (is : List ℕ) → b.last < 15 → All (Used b) is → has (next_id b) is ≡ false
+  pub unused : (is : List ℕ) → b.last < 15 → AllByRecursion (Used b) is → has (next_id b) is ≡ false
   unused [] l a = refl
   unused (j ∷ is) l a = or_from (eqb (next_id b) j) (has (next_id b) is) (ne_eqb (next_id b) j (λ e. clash j e a.0)) (unused is l a.1)
     where
       clash : (j : ℕ) → next_id b ≡ j → Used b j → ⊥
       clash j e u = let h = u (omega arith) in omega arith
 
-  pub next_lawful : (body : List ℕ) → b.last < 15 → length body ≡ 8 → All (λ x. x < 256) body → LawfulEntry p (next_entry b body)
+  pub next_lawful : (body : List ℕ) → b.last < 15 → length body ≡ 8 → AllByRecursion (λ x. x < 256) body → LawfulEntry p (next_entry b body)
   next_lawful body l n bytes = record { id_in_range = (let s = seat_below in omega arith, λ z. omega arith); eight = n; bytes = bytes }
 
-  pub keeps_sending : (body : List ℕ) → b.last < 15 → length body ≡ 8 → All (λ x. x < 256) body → Keeps p i (sending b body)
+  pub keeps_sending : (body : List ℕ) → b.last < 15 → length body ≡ 8 → AllByRecursion (λ x. x < 256) body → Keeps p i (sending b body)
   keeps_sending body l n bytes =
       keeps_holding (next_entry b body) (b.last + 1) (omega arith) (omega arith) (next_lawful body l n bytes) (λ _. omega arith)
       (unused (ids_of b.unordered) l k.unordered_used) (unused (log_ids b.log) l k.logged_used)
@@ -177,7 +177,7 @@ module _ (p : Plan) (i : ℕ) (b : Box) (k : Keeps p i b) where
   room_left true false full e = absurd (some≢none _ e)
   room_left false on full e = absurd (some≢none _ e)
 
-  by_read : (bytes : List ℕ) → All (λ x. x < 256) bytes → (r : Result Content FrameFault) → read_as p bytes ≡ r → Keeps p i (read_after p b r)
+  by_read : (bytes : List ℕ) → AllByRecursion (λ x. x < 256) bytes → (r : Result Content FrameFault) → read_as p bytes ≡ r → Keeps p i (read_after p b r)
   by_read bytes a (Ok c) e = by_contents c (back p bytes c a e).1
   by_read bytes a (Err f) e = k
 

@@ -1,6 +1,6 @@
 -- What a box's record means, and the rules that it keeps.
 use Rattle.std.specs.Prelude.{◌≡◌, ℕ, ◌+◌, ◌/◌, ◌%◌, ◌≤◌, Bool, false, List, [], ◌++◌, Some, Option}
-use Rattle.std.specs.List.{flat_map, AllByRecursion as All}
+use Rattle.std.specs.List.{flat_map, AllByRecursion}
 use Rattle.frames.specs.declared.plan.Plan.{Plan}
 use Rattle.frames.specs.declared.Entry.{Entry}
 use Rattle.frames.specs.Contents.{Token, has, ids_of, Once, LawfulList, LawfulDecision, LawfulToken}
@@ -43,8 +43,8 @@ Used b i = i / 16 ≡ b.seat → i % 16 ≤ b.last
 -- Unordered entries beside a log: both lawful, no id in the log twice, and no unordered one in the log.
 pub record Lists (p : Plan) (unordered : List Entry) (log : List (List Entry)) : Type 0 where
   pub entries : LawfulList p unordered
-  pub apart : All (λ i. has i (log_ids log) ≡ false) (ids_of unordered)
-  pub decisions : All (LawfulDecision p) log
+  pub apart : AllByRecursion (λ i. has i (log_ids log) ≡ false) (ids_of unordered)
+  pub decisions : AllByRecursion (LawfulDecision p) log
   pub once : Once [] (log_ids log)
 
 -- The rules of a record of this plan and this seat.
@@ -54,8 +54,8 @@ pub record Keeps (p : Plan) (i : ℕ) (b : Box) : Type 0 where
   pub seated : b.seat ≡ i
   pub in_turn : b.awaited % p.n ≡ i
   pub lists : Lists p b.unordered b.log
-  pub unordered_used : All (Used b) (ids_of b.unordered)
-  pub logged_used : All (Used b) (log_ids b.log)
+  pub unordered_used : AllByRecursion (Used b) (ids_of b.unordered)
+  pub logged_used : AllByRecursion (Used b) (log_ids b.log)
   pub serials : b.last ≤ 15
   pub turns : (t : Turn) → b.turn ≡ Some t → LawfulToken p (passed b t)
 

@@ -1,6 +1,6 @@
 -- What a box makes of a frame's contents, told by cases: for each answer, when it comes and what the record becomes.
 use Rattle.std.specs.Prelude.{◌≡◌, ◌+◌, ◌<◌, ◌≤◌, true, false, ◌≢◌, ◌⊎◌, length, None, Ok, Err, Result}
-use Rattle.std.specs.List.{AllByRecursion as All}
+use Rattle.std.specs.List.{AllByRecursion}
 use Rattle.frames.specs.declared.plan.Plan.{Plan}
 use Rattle.frames.specs.declared.Entry.{Entry}
 use Rattle.frames.specs.Contents.{Token, Content, has, ids_of}
@@ -24,7 +24,7 @@ Behind p b t = p.n < gap b t
 
 -- The token is meant for this box and has no id of it above its last serial.
 abbrev pub Expected : Plan → Box → Token → Type 0
-Expected p b t = (meant p b.seat t ≡ true) × All (Used b) (token_ids t)
+Expected p b t = (meant p b.seat t ≡ true) × AllByRecursion (Used b) (token_ids t)
 
 -- A token that is expected, with no turn open.
 abbrev pub Ready : Plan → Box → Token → Type 0

@@ -1,6 +1,6 @@
 -- What holds of boxes.
 use Rattle.std.specs.Prelude.{◌≡◌, ℕ, ◌+◌, ◌-◌, ◌%◌, ◌<◌, ◌≤◌, Bool, true, false, ◌≢◌, ◌⊎◌, List, [], ◌∷◌, ◌++◌, map, length, Some, Ok, Err, Decides, Option, Result}
-use Rattle.std.specs.List.{ContainsAt as Has, AllByRecursion as All}
+use Rattle.std.specs.List.{ContainsAt as Has, AllByRecursion}
 use Rattle.frames.specs.declared.plan.Plan.{Plan}
 use Rattle.frames.specs.declared.Entry.{Entry}
 use Rattle.frames.specs.Contents.{Token, Content, has, LawfulToken, Lawful, bytes_of}
@@ -32,7 +32,7 @@ pub record ByParts (xs ys : List (List Entry)) : Type 0 where
 -- The tests of logs and ids decide what they stand for, logs are compared by their parts, and a test that decides a record's rules
 -- gives a call the answer that the rules give it.
 pub record TestsDecide : Type 0 where
-  pub ids : (b : Box) (is : List ℕ) → Decides (all_used b is) (All (Used b) is)
+  pub ids : (b : Box) (is : List ℕ) → Decides (all_used b is) (AllByRecursion (Used b) is)
   pub begins : (xs ys : List (List Entry)) → Decides (begins_log xs ys) (Begins xs ys)
   pub agree : (xs ys : List (List Entry)) → Decides (agrees xs ys) (Agree xs ys)
   pub parts : (xs ys : List (List Entry)) → Begins xs ys → ByParts xs ys
@@ -64,7 +64,7 @@ pub record ComesFrom (p : Plan) (sent : List Entry) (H : History Entry) (b : Box
 abbrev pub TurnsMakeTokens : Type 0
 TurnsMakeTokens =
     (p : Plan) (i : ℕ) (b : Box) (t : Token) → Keeps p i b → LawfulToken p t → answer p b (token t) ≡ Ok outcome.Opened →
-    (sent : List Entry) → All (Has sent) b.unordered → (H : History Entry) → Logged H b →
+    (sent : List Entry) → AllByRecursion (Has sent) b.unordered → (H : History Entry) → Logged H b →
     ComesFrom p sent H b t (passed (opened p b t) (opened_turn p b t))
 
 -- The handed token's proposal had f votes in the round just before, and this box's vote makes f+1: it is the last decision.
@@ -95,8 +95,8 @@ pub record UnorderedStay : Type 0 where
 -- A record keeps its rules through every call, whatever the call's arguments and whether or not it is refused.
 pub record Stays (p : Plan) (i : ℕ) (b : Box) : Type 0 where
   pub by_contents : (c : Content) → Lawful p c → Keeps p i (box_after p b c)
-  pub by_frame : (kept : Bool) (bytes : List ℕ) → All (λ x. x < 256) bytes → Keeps p i (frame_after p b kept bytes)
-  pub by_send : (kept : Bool) (body : List ℕ) → length body ≡ 8 → All (λ x. x < 256) body → Keeps p i (send_after b kept body)
+  pub by_frame : (kept : Bool) (bytes : List ℕ) → AllByRecursion (λ x. x < 256) bytes → Keeps p i (frame_after p b kept bytes)
+  pub by_send : (kept : Bool) (body : List ℕ) → length body ≡ 8 → AllByRecursion (λ x. x < 256) body → Keeps p i (send_after b kept body)
   pub by_doubt : (doubt kept : Bool) → Keeps p i (doubt_after doubt b kept)
   pub by_off : (kept : Bool) → Keeps p i (off_after b kept)
   pub by_pass : (kept : Bool) (room seat round : ℕ) → Keeps p i (pass_after b kept room seat round)
@@ -116,7 +116,7 @@ pub record Readable (p : Plan) (c : Content) : Type 0 where
 -- What boxes send reads as sent: the token of an open turn, a box's next order, the token of round 0 and the dummies.
 pub record FramesRead : Type 0 where
   pub turns : (p : Plan) (i : ℕ) (b : Box) (t : Turn) → Keeps p i b → b.turn ≡ Some t → Readable p (token (passed b t))
-  pub orders : (p : Plan) (i : ℕ) (b : Box) (body : List ℕ) → Keeps p i b → b.last < 15 → length body ≡ 8 → All (λ x. x < 256) body → Readable p (order (next_entry b body))
+  pub orders : (p : Plan) (i : ℕ) (b : Box) (body : List ℕ) → Keeps p i b → b.last < 15 → length body ≡ 8 → AllByRecursion (λ x. x < 256) body → Readable p (order (next_entry b body))
   pub first : (p : Plan) → Readable p (token first_token)
   pub dummies : (p : Plan) (j : ℕ) → p.n - p.f ≤ j → j < p.n → Readable p (token (dummy_of j))
 

@@ -1,6 +1,6 @@
 -- What reads was written.
 use Rattle.std.proofs.Common.{◌≡◌, ℕ, zero, suc, ◌+◌, ◌-◌, ◌*◌, ◌/◌, ◌%◌, ◌<◌, ◌≤◌, true, false, cond, not, ◌||◌, eqb, ltb, leb, ◌≢◌, ◌⊎◌, List, [], ◌∷◌, ◌++◌, length, get_or, take, drop, Ok, sym, refl, ap, ◌∙◌, subst, inl, inr, arith, length-append, length-drop, length-take}
-use Rattle.std.specs.List.{flat_map, AllByRecursion as All}
+use Rattle.std.specs.List.{flat_map, AllByRecursion}
 use Rattle.std.proofs.lemmas.Bool.Decides.{nat_tests}
 use Rattle.std.proofs.ByRecursion.{All-take, All-drop, All-get_or}
 use Rattle.std.proofs.lemmas.List.{append_assoc, drop-drop, drop_more, take-append-drop}
@@ -13,7 +13,7 @@ use Rattle.frames.proofs.Steps.{passed, came, ten}
 use Rattle.frames.proofs.Written.{past, once_join, none_of, append_none, GoodHead}
 
 abbrev pub Bytes : List ℕ → Type 0
-Bytes = All (λ b. b < 256)
+Bytes = AllByRecursion (λ b. b < 256)
 
 -- so many entries were read at the front of `bs`, after `met`
 pub record Entries (p : Plan) (k last at : ℕ) (bs met : List ℕ) (r : Rest) : Type 0 where
@@ -21,7 +21,7 @@ pub record Entries (p : Plan) (k last at : ℕ) (bs met : List ℕ) (r : Rest) :
   pub count : length (entries_in k bs) ≡ k
   pub long : length (flat_map entry_bytes (entries_in k bs)) ≡ 9 * k
   pub left : r.bytes ≡ drop (9 * k) bs
-  pub each : Bytes bs → All (LawfulEntry p) (entries_in k bs)
+  pub each : Bytes bs → AllByRecursion (LawfulEntry p) (entries_in k bs)
   pub ascend : Ascend last (ids_of (entries_in k bs))
   pub once : Once met (ids_of (entries_in k bs))
   pub place : r.at ≡ at + 9 * k
@@ -86,7 +86,7 @@ entries p (suc k) last r r' q =
 pub record Decisions (p : Plan) (k : ℕ) (bs met : List ℕ) (r : Rest) : Type 0 where
   pub front : flat_map decision_bytes (decisions_in k bs) ++ r.bytes ≡ bs
   pub count : length (decisions_in k bs) ≡ k
-  pub each : Bytes bs → All (LawfulDecision p) (decisions_in k bs)
+  pub each : Bytes bs → AllByRecursion (LawfulDecision p) (decisions_in k bs)
   pub once : Once met (flat_map ids_of (decisions_in k bs))
 
 pub decisions : (p : Plan) (k : ℕ) (r r' : Rest) → decisions_as p k r ≡ Ok r' → Decisions p k r.bytes r.met r'

@@ -1,7 +1,7 @@
 -- How much lawful contents can hold.
 use Rattle.std.proofs.Common.{◌≡◌, ℕ, zero, suc, ◌+◌, ◌-◌, ◌*◌, ◌/◌, ◌%◌, ◌<◌, ◌≤◌, true, cond, eqb, ltb, ◌≢◌, List, [], ◌∷◌, ◌++◌, length, sym, refl, ap, ◌∙◌, arith, length-append}
 use native.Mathlib.Decide.{ℕ_discrete}
-use Rattle.std.specs.List.{flat_map, AllByRecursion as All}
+use Rattle.std.specs.List.{flat_map, AllByRecursion}
 use Rattle.std.proofs.lemmas.Bool.Decides.{nat_tests}
 use Rattle.std.proofs.ByRecursion.{All-append}
 use Rattle.std.proofs.lemmas.Bool.{cond-true, cond-false, eq-eqb, ne_eqb, or_left, or_right, true≢false}
@@ -30,7 +30,7 @@ unfolding below
 below_none [] = refl
 below_none (x ∷ xs) = let h = below_none xs in grind (arith, nat_tests)
 
-below_all : (k : ℕ) (xs : List ℕ) → All (λ x. x < k) xs → below k xs ≡ length xs
+below_all : (k : ℕ) (xs : List ℕ) → AllByRecursion (λ x. x < k) xs → below k xs ≡ length xs
 unfolding below
 below_all k [] a = refl
 below_all k (x ∷ xs) a = let h = below_all k xs a.1 in let l = a.0 in grind (arith, nat_tests)
@@ -63,7 +63,7 @@ at_most_one k met (x ∷ xs) o =
           omega arith
     ]
 
-none_at : (k : ℕ) (xs : List ℕ) → k % 16 ≡ 0 → All (λ x. x % 16 ≢ 0) xs → count k xs ≡ 0
+none_at : (k : ℕ) (xs : List ℕ) → k % 16 ≡ 0 → AllByRecursion (λ x. x % 16 ≢ 0) xs → count k xs ≡ 0
 unfolding count
 none_at k [] z a = refl
 none_at k (x ∷ xs) z a =
@@ -73,7 +73,7 @@ none_at k (x ∷ xs) z a =
     omega arith
 
 -- of the ids below k one in 16 has serial 0
-below_room : (k : ℕ) (xs : List ℕ) → All (λ x. x % 16 ≢ 0) xs → Once [] xs → below k xs ≤ k - (k + 15) / 16
+below_room : (k : ℕ) (xs : List ℕ) → AllByRecursion (λ x. x % 16 ≢ 0) xs → Once [] xs → below k xs ≤ k - (k + 15) / 16
 below_room zero xs a o = let h = below_none xs in omega arith
 below_room (suc k) xs a o =
     let ih = below_room k xs a o in
@@ -84,17 +84,17 @@ below_room (suc k) xs a o =
       | no nz ↦ omega arith
     ]
 
-pub room : (p : Plan) (xs : List ℕ) → All (InRange p) xs → Once [] xs → length xs ≤ 15 * p.n
+pub room : (p : Plan) (xs : List ℕ) → AllByRecursion (InRange p) xs → Once [] xs → length xs ≤ 15 * p.n
 room p xs a o =
     let r = below_room (16 * p.n) xs (serials xs a) o in
     let e = below_all (16 * p.n) xs (small xs a) in
     omega arith
   where
-    serials : (xs : List ℕ) → All (InRange p) xs → All (λ x. x % 16 ≢ 0) xs
+    serials : (xs : List ℕ) → AllByRecursion (InRange p) xs → AllByRecursion (λ x. x % 16 ≢ 0) xs
     serials [] a = tt
     serials (x ∷ xs) a = (a.0.1, serials xs a.1)
 
-    small : (xs : List ℕ) → All (InRange p) xs → All (λ x. x < 16 * p.n) xs
+    small : (xs : List ℕ) → AllByRecursion (InRange p) xs → AllByRecursion (λ x. x < 16 * p.n) xs
     small [] a = tt
     small (x ∷ xs) a = (let h = a.0.0 in omega arith, small xs a.1)
 
@@ -102,20 +102,20 @@ ids_length : (es : List Entry) → length (ids_of es) ≡ length es
 ids_length [] = refl
 ids_length (e ∷ es) = ap suc (ids_length es)
 
-pub entries_bytes : (es : List Entry) → All Whole es → All (λ b. b < 256) (flat_map entry_bytes es)
+pub entries_bytes : (es : List Entry) → AllByRecursion Whole es → AllByRecursion (λ b. b < 256) (flat_map entry_bytes es)
 entries_bytes [] w = tt
 entries_bytes (e ∷ es) w = All-append (λ b. b < 256) (entry_bytes e) (flat_map entry_bytes es) (w.0.id_byte, w.0.bytes) (entries_bytes es w.1)
 
 module _ (p : Plan) where
-  ids_in_range : (es : List Entry) → All (LawfulEntry p) es → All (InRange p) (ids_of es)
+  ids_in_range : (es : List Entry) → AllByRecursion (LawfulEntry p) es → AllByRecursion (InRange p) (ids_of es)
   ids_in_range [] l = tt
   ids_in_range (e ∷ es) l = (l.0.id_in_range, ids_in_range es l.1)
 
-  all_ids_in_range : (ds : List (List Entry)) → All (LawfulDecision p) ds → All (InRange p) (flat_map ids_of ds)
+  all_ids_in_range : (ds : List (List Entry)) → AllByRecursion (LawfulDecision p) ds → AllByRecursion (InRange p) (flat_map ids_of ds)
   all_ids_in_range [] l = tt
   all_ids_in_range (d ∷ ds) l = All-append (InRange p) (ids_of d) (flat_map ids_of ds) (ids_in_range d l.0.entries.each) (all_ids_in_range ds l.1)
 
-  decisions_length : (ds : List (List Entry)) → All (LawfulDecision p) ds →
+  decisions_length : (ds : List (List Entry)) → AllByRecursion (LawfulDecision p) ds →
       (length (flat_map decision_bytes ds) ≡ length ds + 9 * length (flat_map ids_of ds)) × (length ds ≤ length (flat_map ids_of ds))
   decisions_length [] l = (refl, omega arith)
   decisions_length (d ∷ ds) l =
@@ -137,14 +137,14 @@ module _ (p : Plan) where
       omega arith
 
   module _ (hn : p.n ≤ 15) where
-    decisions_bytes : (ds : List (List Entry)) → All (LawfulDecision p) ds → length (flat_map ids_of ds) ≤ 225 → All (λ b. b < 256) (flat_map decision_bytes ds)
+    decisions_bytes : (ds : List (List Entry)) → AllByRecursion (LawfulDecision p) ds → length (flat_map ids_of ds) ≤ 225 → AllByRecursion (λ b. b < 256) (flat_map decision_bytes ds)
     decisions_bytes [] l h = tt
     decisions_bytes (d ∷ ds) l h =
         let b = length-append (ids_of d) (flat_map ids_of ds) in
         let n = ids_length d in
         All-append (λ b. b < 256) (decision_bytes d) (flat_map decision_bytes ds) (omega arith, entries_bytes d (whole_entries p d l.0.entries.each)) (decisions_bytes ds l.1 (omega arith))
 
-    token_fits : (t : Token) → p.f ≤ 15 → LawfulToken p t → All (λ b. b < 256) (token_bytes p t) × (length (token_bytes p t) ≤ 10 + 150 * p.n)
+    token_fits : (t : Token) → p.f ≤ 15 → LawfulToken p t → AllByRecursion (λ b. b < 256) (token_bytes p t) × (length (token_bytes p t) ≤ 10 + 150 * p.n)
     token_fits t hf l =
         let es = l.proposal_lawful.each in
         let ds = l.decisions_lawful in
@@ -157,6 +157,6 @@ module _ (p : Plan) where
         let sender = l.sender_fits in
         ((omega arith, (omega arith, (omega arith, (omega arith, (omega arith, (omega arith, (omega arith, (omega arith, (omega arith, (omega arith, All-append (λ b. b < 256) (flat_map entry_bytes t.proposal) (flat_map decision_bytes t.decisions) (entries_bytes t.proposal (whole_entries p t.proposal es)) (decisions_bytes t.decisions ds (omega arith)))))))))))), omega arith)
 
-pub fits : (p : Plan) (c : Content) → p.n ≤ 15 → p.f ≤ 15 → Lawful p c → All (λ b. b < 256) (bytes_of p c) × (length (bytes_of p c) ≤ 10 + 150 * p.n)
+pub fits : (p : Plan) (c : Content) → p.n ≤ 15 → p.f ≤ 15 → Lawful p c → AllByRecursion (λ b. b < 256) (bytes_of p c) × (length (bytes_of p c) ≤ 10 + 150 * p.n)
 fits p (order e) hn hf l = ((omega arith, (omega arith, (omega (arith, l.id_in_range.0), l.bytes))), let h = l.id_in_range.0 in let n = l.eight in omega arith)
 fits p (token t) hn hf l = token_fits p hn t hf l

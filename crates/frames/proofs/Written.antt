@@ -2,7 +2,7 @@
 use Rattle.std.proofs.Common.{◌≡◌, ℕ, suc, ◌+◌, ◌*◌, ◌/◌, ◌%◌, ◌^◌, ◌<◌, ◌≤◌, false, cond, not, ◌||◌, eqb, ltb, leb, ◌≢◌, ◌⊎◌, List, [], ◌∷◌, ◌++◌, length, get_or, take, drop, Ok, sym, refl, ap, ◌∙◌, inl, inr, mod-eq_of_lt, arith, length-append}
 use native.Mathlib.Nat.{div-add-mod, div-div-eq-div-mul}
 use native.Mathlib.Decide.{ℕ_discrete}
-use Rattle.std.specs.List.{flat_map, AllByRecursion as All}
+use Rattle.std.specs.List.{flat_map, AllByRecursion}
 use Rattle.std.proofs.lemmas.Bool.Decides.{nat_tests}
 use Rattle.std.proofs.lemmas.List.{append_assoc, drop_at, take_at}
 use Rattle.std.proofs.lemmas.Bool.{cond-false, le-ltb, lt-leb, ne_eqb, or_from}
@@ -36,7 +36,7 @@ once_join met (x ∷ xs) ys o q = (o.0, once_join (x ∷ met) xs ys o.1 q)
 in_range_passes : (p : Plan) (i : ℕ) → InRange p i → out_of_range p i ≡ false
 in_range_passes p i h = or_from _ _ (lt-leb _ _ h.0) (ne_eqb _ _ h.1)
 
-pub entries_read : (p : Plan) (es : List Entry) (last at : ℕ) (met rest : List ℕ) → All (LawfulEntry p) es → Ascend last (ids_of es) → Once met (ids_of es) →
+pub entries_read : (p : Plan) (es : List Entry) (last at : ℕ) (met rest : List ℕ) → AllByRecursion (LawfulEntry p) es → Ascend last (ids_of es) → Once met (ids_of es) →
     entries_as p (length es) last (record { at = at; bytes = flat_map entry_bytes es ++ rest; met = met }) ≡ Ok (after at met es rest)
 entries_read p [] last at met rest l a o = refl
 entries_read p (e ∷ es) last at met rest l a o =
@@ -52,7 +52,7 @@ entries_read p (e ∷ es) last at met rest l a o =
     ∙ ap (λ z. entries_as p (length es) e.id (record { at = at + 9; bytes = z; met = e.id ∷ met })) d
     ∙ entries_read p es e.id (at + 9) (e.id ∷ met) rest l.1 a.1 o.1
 
-pub decisions_read : (p : Plan) (ds : List (List Entry)) (at : ℕ) (met rest : List ℕ) → All (LawfulDecision p) ds → Once met (flat_map ids_of ds) →
+pub decisions_read : (p : Plan) (ds : List (List Entry)) (at : ℕ) (met rest : List ℕ) → AllByRecursion (LawfulDecision p) ds → Once met (flat_map ids_of ds) →
     (r : Rest) × (decisions_as p (length ds) (record { at = at; bytes = flat_map decision_bytes ds ++ rest; met = met }) ≡ Ok r) × (r.bytes ≡ rest)
 decisions_read p [] at met rest l o = (record { at = at; bytes = rest; met = met }, refl, refl)
 decisions_read p (d ∷ ds) at met rest l o =
@@ -66,25 +66,25 @@ decisions_read p (d ∷ ds) at met rest l o =
     let (r, reads, left) = decisions_read p ds (place_after (at + 1) d) (past met (ids_of d)) rest l.1 os.1 in
     (r, cond-false _ _ _ t1 ∙ cond-false _ _ _ t2 ∙ through _ (decisions_as p (length ds)) _ first ∙ reads, left)
 
-pub whole_entries : (p : Plan) (es : List Entry) → All (LawfulEntry p) es → All Whole es
+pub whole_entries : (p : Plan) (es : List Entry) → AllByRecursion (LawfulEntry p) es → AllByRecursion Whole es
 whole_entries p [] l = tt
 whole_entries p (e ∷ es) l =
     let most = p.most in
     let boxed = l.0.id_in_range.0 in
     (record { id_byte = omega arith; eight = l.0.eight; bytes = l.0.bytes }, whole_entries p es l.1)
 
-pub whole_decisions : (p : Plan) (ds : List (List Entry)) → All (LawfulDecision p) ds → All (All Whole) ds
+pub whole_decisions : (p : Plan) (ds : List (List Entry)) → AllByRecursion (LawfulDecision p) ds → AllByRecursion (AllByRecursion Whole) ds
 whole_decisions p [] l = tt
 whole_decisions p (d ∷ ds) l = (whole_entries p d l.0.entries.each, whole_decisions p ds l.1)
 
-pub joined_length : (es : List Entry) → All Whole es → length (flat_map entry_bytes es) ≡ 9 * length es
+pub joined_length : (es : List Entry) → AllByRecursion Whole es → length (flat_map entry_bytes es) ≡ 9 * length es
 joined_length [] w = refl
 joined_length (e ∷ es) w =
     let a = length-append e.body (flat_map entry_bytes es) in
     let h = joined_length es w.1 in
     omega (arith, w.0.eight)
 
-pub entries-in : (es : List Entry) (rest : List ℕ) → All Whole es → entries_in (length es) (flat_map entry_bytes es ++ rest) ≡ es
+pub entries-in : (es : List Entry) (rest : List ℕ) → AllByRecursion Whole es → entries_in (length es) (flat_map entry_bytes es ++ rest) ≡ es
 entries-in [] rest w = refl
 entries-in (e ∷ es) rest w =
     let whole : (e.body ++ flat_map entry_bytes es) ++ rest ≡ e.body ++ (flat_map entry_bytes es ++ rest) = append_assoc e.body (flat_map entry_bytes es) rest in
@@ -93,7 +93,7 @@ entries-in (e ∷ es) rest w =
     ap (λ z. entries_in (length es) z) (ap (drop 8) whole ∙ drop_at e.body _ 8 w.0.eight) ∙ entries-in es rest w.1 in
     λ i. record { id = e.id; body = body i } ∷ tail i
 
-pub decisions-in : (ds : List (List Entry)) (rest : List ℕ) → All (All Whole) ds → decisions_in (length ds) (flat_map decision_bytes ds ++ rest) ≡ ds
+pub decisions-in : (ds : List (List Entry)) (rest : List ℕ) → AllByRecursion (AllByRecursion Whole) ds → decisions_in (length ds) (flat_map decision_bytes ds ++ rest) ≡ ds
 decisions-in [] rest w = refl
 decisions-in (d ∷ ds) rest w =
     let more = flat_map decision_bytes ds ++ rest in
@@ -158,7 +158,7 @@ good_decided p t l =
       | no e ↦ grind (arith, nat_tests)
     ]
 
-pub token-in : (p : Plan) (t : Token) → t.stamp < 2 ^ 32 → All Whole t.proposal → All (All Whole) t.decisions → token_in (token_bytes p t) ≡ t
+pub token-in : (p : Plan) (t : Token) → t.stamp < 2 ^ 32 → AllByRecursion Whole t.proposal → AllByRecursion (AllByRecursion Whole) t.decisions → token_in (token_bytes p t) ≡ t
 token-in p t h w v =
     let stamp = four t.stamp h in
     let es = flat_map entry_bytes t.proposal in

@@ -1,6 +1,6 @@
 -- What a frame holds, which contents are lawful for a plan, and how contents are written.
 use Rattle.std.specs.Prelude.{◌≡◌, ℕ, ◌+◌, ◌-◌, ◌*◌, ◌/◌, ◌%◌, ◌<◌, ◌≤◌, Bool, false, ◌||◌, ◌≢◌, List, [], ◌∷◌, ◌++◌, map, length, take, drop, ◌==◌, slice_index_or}
-use Rattle.std.specs.List.{flat_map, AllByRecursion as All}
+use Rattle.std.specs.List.{flat_map, AllByRecursion}
 use Rattle.frames.specs.declared.plan.Plan.{Plan}
 use Rattle.frames.specs.declared.Entry.{Entry}
 
@@ -70,12 +70,12 @@ InRange p i = (i / 16 < p.n) × (i % 16 ≢ 0)
 pub record Whole (e : Entry) : Type 0 where
   pub id_byte : e.id < 256
   pub eight : length e.body ≡ 8
-  pub bytes : All (λ b. b < 256) e.body
+  pub bytes : AllByRecursion (λ b. b < 256) e.body
 
 pub record LawfulEntry (p : Plan) (e : Entry) : Type 0 where
   pub id_in_range : InRange p e.id
   pub eight : length e.body ≡ 8
-  pub bytes : All (λ b. b < 256) e.body
+  pub bytes : AllByRecursion (λ b. b < 256) e.body
 
 -- ids that ascend, all above `last`
 abbrev pub Ascend : ℕ → List ℕ → Type 0
@@ -89,7 +89,7 @@ Once met (i ∷ is) = (has i met ≡ false) × Once (i ∷ met) is
 
 -- entries of one list: lawful, with ascending ids
 pub record LawfulList (p : Plan) (es : List Entry) : Type 0 where
-  pub each : All (LawfulEntry p) es
+  pub each : AllByRecursion (LawfulEntry p) es
   pub ascend : Ascend 0 (ids_of es)
 
 pub record LawfulDecision (p : Plan) (d : List Entry) : Type 0 where
@@ -115,7 +115,7 @@ pub record LawfulToken (p : Plan) (t : Token) : Type 0 where
   pub dummy : t.stamp ≡ 0 → Dummy p t
   pub round : t.stamp ≢ 0 → Round p t
   pub proposal_lawful : LawfulList p t.proposal
-  pub decisions_lawful : All (LawfulDecision p) t.decisions
+  pub decisions_lawful : AllByRecursion (LawfulDecision p) t.decisions
   pub no_id_twice : Once [] (ids_of t.proposal ++ flat_map ids_of t.decisions)
 
 abbrev pub Lawful : Plan → Content → Type 0

@@ -1,6 +1,6 @@
 -- No number stands twice in a list where each is counted at most once.
 use Rattle.std.proofs.Common.{◌≡◌, ℕ, ◌+◌, ◌≤◌, false, cond, eqb, List, [], ◌∷◌, ◌++◌, refl, arith}
-use Rattle.std.specs.List.{AllByRecursion as All}
+use Rattle.std.specs.List.{AllByRecursion}
 use Rattle.std.proofs.lemmas.Bool.Decides.{nat_tests}
 use Rattle.frames.specs.Contents.{has, Once, Ascend}
 
@@ -50,6 +50,6 @@ ascend_most i last [] a = omega arith
 ascend_most i last (x ∷ xs) a = let ih = ascend_most i x xs a.1 in let none = above_none x x xs (omega arith) a.1 in grind (arith, nat_tests)
 
 -- what is in met is not in a list of which nothing is in met
-pub none_in : (i : ℕ) (met xs : List ℕ) → All (λ j. has j met ≡ false) xs → 1 ≤ count i met → count i xs ≡ 0
+pub none_in : (i : ℕ) (met xs : List ℕ) → AllByRecursion (λ j. has j met ≡ false) xs → 1 ≤ count i met → count i xs ≡ 0
 none_in i met [] a h = refl
 none_in i met (x ∷ xs) a h = let ih = none_in i met xs a.1 h in let none = has_none x met a.0 in grind (arith, nat_tests)

@@ -4,7 +4,7 @@ use mathlib.Core.List.Memᴰ
 use mathlib.Core.List.{Memᴰ}
 use mathlib.Core.Option.{some}
 use lib.ListN.{get_elem?}
-use Rattle.std.specs.List.{AllByRecursion as All}
+use Rattle.std.specs.List.{AllByRecursion}
 use Rattle.std.proofs.lemmas.Bool.{or_parts, and_parts, not-true, eqb-false}
 use Rattle.frames.specs.Contents.{has}
 use Rattle.history.specs.Tokens.{Token, Rule, Keep, Step, Created, Single}
@@ -18,7 +18,7 @@ at_place (y ∷ xs) zero x e = Memᴰ.head cc
 at_place (y ∷ xs) (suc k) x e = Memᴰ.tail (at_place xs k x e)
 
 -- what holds of each element holds of each member
-pub each_in : {X : Type 0} (P : X → Type 0) (xs : List X) → All P xs → (x : X) → Memᴰ x xs → P x
+pub each_in : {X : Type 0} (P : X → Type 0) (xs : List X) → AllByRecursion P xs → (x : X) → Memᴰ x xs → P x
 each_in P [] a x m = absurd (Memᴰ.not-nil m)
 each_in P (y ∷ xs) a x m = elim (Memᴰ.cases_cons m) [ inl e ↦ subst P (sym e) a.0 | inr n ↦ each_in P xs a.1 x n ]
 

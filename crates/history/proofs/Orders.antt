@@ -1,7 +1,7 @@
 -- A lawful history of a plan's orders is sound: its tokens agree and are lawful frames.
 use Rattle.std.proofs.Common.{◌≡◌, ℕ, ◌+◌, ◌<◌, ◌≤◌, ◌≢◌, List, [], ◌∷◌, length, sym, refl, ◌∙◌, subst, arith}
 use native.Mathlib.Decide.{ℕ_discrete}
-use Rattle.std.specs.List.{ContainsAt as Has, flat_map, AllByRecursion as All}
+use Rattle.std.specs.List.{ContainsAt as Has, flat_map, AllByRecursion}
 use Rattle.std.proofs.ByRecursion.{All-push, All-weaker, has_append_right}
 use Rattle.frames.specs.declared.plan.Plan.{Plan}
 use Rattle.frames.specs.declared.Entry.{Entry}
@@ -34,7 +34,7 @@ pub record Frameable (p : Plan) (s : ℕ) (t : Token Entry) : Type 0 where
   pub few : t.votes ≤ p.f
   pub one_vote : s ≢ 0 → t.proposal ≡ [] → t.votes ≡ 1
   pub proposal_lawful : LawfulList p t.proposal
-  pub decisions_lawful : All (LawfulDecision p) t.decisions
+  pub decisions_lawful : AllByRecursion (LawfulDecision p) t.decisions
 
 module _ (p : Plan) (sent : List Entry) (Made : Relation Entry) (law : Lawful (Put p sent) Made p.f) where
   frameable_on : (s : ℕ) (t : Token Entry) → Made s t → Created (Put p sent) Made p.f s t → Earlier law (Frameable p) s → Frameable p s t
@@ -51,7 +51,7 @@ module _ (p : Plan) (sent : List Entry) (Made : Relation Entry) (law : Lawful (P
       }
 
       -- a new proposal with one vote
-      renewed : (p' : ℕ) → p' < s → t.votes ≡ 1 → Put p sent t.decisions t.proposal → All (LawfulDecision p) t.decisions → Frameable p s t
+      renewed : (p' : ℕ) → p' < s → t.votes ≡ 1 → Put p sent t.decisions t.proposal → AllByRecursion (LawfulDecision p) t.decisions → Frameable p s t
       renewed p' l e put ds = record {
         dummy_empty = λ z. absurd (omega arith);
         voted = λ ne. omega arith;

@@ -3,7 +3,7 @@ use Rattle.std.proofs.Common.{◌≡◌, ℕ, ◌+◌, ◌<◌, ◌≤◌, true,
 use mathlib.Core.List.{cons≢nil}
 use mathlib.Core.Option.{some}
 use lib.ListN.{get_elem?}
-use Rattle.std.specs.List.{AllByRecursion as All}
+use Rattle.std.specs.List.{AllByRecursion}
 use Rattle.history.specs.Tokens.{Token, Rule, Any, Decide, Step, Created}
 use Rattle.history.specs.Tokens.Step.{keep, fresh, decide}
 use Rattle.history.specs.Tokens.Created.{dummy, first}
@@ -39,7 +39,7 @@ module _ (Fit : Rule ℕ) (H : History ℕ) (f : ℕ) where
   abbrev But : ℕ → ℕ × Token ℕ → Type 0
   But s x = x.0 ≢ s → Created Fit (In H) f x.0 x.1
 
-  but_for : (s : ℕ) → All (But s) H → (x : ℕ) (w : Token ℕ) → In H x w → x ≢ s → Created Fit (In H) f x w
+  but_for : (s : ℕ) → AllByRecursion (But s) H → (x : ℕ) (w : Token ℕ) → In H x w → x ≢ s → Created Fit (In H) f x w
   but_for s a x w m = each_in (But s) H a (x, w) m
 
 -- for a token that is made by the rules, and for the one that is not
@@ -65,7 +65,7 @@ split H s s' place place' q q' = record {
   apart = λ a. let e = heads (7 ∷ []) (8 ∷ []) a in let z : ◌≡◌ {A = ℕ} 7 8 = cc in omega arith;
 }
 
-gap_others : All (But Any gap_history 1 4) gap_history
+gap_others : AllByRecursion (But Any gap_history 1 4) gap_history
 gap_others = (by six, (by five, (here, (by three, (by two, (by (one Any gap_history 1), (by (zeroth Any gap_history 1), tt)))))))
   where
     six : Created Any (In gap_history) 1 6 (decided 8)
@@ -95,7 +95,7 @@ gap_but = record {
   others = but_for Any gap_history 1 4 gap_others;
 }
 
-vote_others : All (But Any vote_history 2 3) vote_history
+vote_others : AllByRecursion (But Any vote_history 2 3) vote_history
 vote_others = (by six, (by five, (by four, (here, (by two, (by (one Any vote_history 2), (by (zeroth Any vote_history 2), tt)))))))
   where
     six : Created Any (In vote_history) 2 6 (decided 8)
@@ -125,7 +125,7 @@ vote_but = record {
   others = but_for Any vote_history 2 3 vote_others;
 }
 
-blind_others : All (But Any blind_history 1 4) blind_history
+blind_others : AllByRecursion (But Any blind_history 1 4) blind_history
 blind_others = (by five, (here, (by three, (by two, (by (one Any blind_history 1), (by (zeroth Any blind_history 1), tt))))))
   where
     five : Created Any (In blind_history) 1 5 (decided 8)
@@ -167,7 +167,7 @@ dropped_but = record {
   others = but_for Any blind_history 1 4 blind_others;
 }
 
-twice_all : All (λ x. Created Any (In twice_history) 1 x.0 x.1) twice_history
+twice_all : AllByRecursion (λ x. Created Any (In twice_history) 1 x.0 x.1) twice_history
 twice_all = (five, (four, (three, (two', (two, (one Any twice_history 1, (zeroth Any twice_history 1, tt)))))))
   where
     five : Created Any (In twice_history) 1 5 (decided 8)
@@ -191,7 +191,7 @@ twice_made s t m = each_in (λ x. Created Any (In twice_history) 1 x.0 x.1) twic
 abbrev Own : Rule ℕ
 Own = Clear (λ i. i)
 
-kept_others : All (But Own kept_history 1 6) kept_history
+kept_others : AllByRecursion (But Own kept_history 1 6) kept_history
 kept_others = (by seven, (here, (by three, (by four, (by two, (by (one Own kept_history 1), (by (zeroth Own kept_history 1), tt)))))))
   where
     seven : Created Own (In kept_history) 1 7 again

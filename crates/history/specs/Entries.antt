@@ -1,6 +1,6 @@
 -- Histories of a plan's orders, and their tokens as frames.
 use Rattle.std.specs.Prelude.{◌≡◌, ℕ, ◌-◌, ◌%◌, ◌<◌, ◌≤◌, false, ◌≢◌, List, ◌∷◌}
-use Rattle.std.specs.List.{ContainsAt as Has, flat_map, AllByRecursion as All}
+use Rattle.std.specs.List.{ContainsAt as Has, flat_map, AllByRecursion}
 use Rattle.frames.specs.declared.plan.Plan.{Plan}
 use Rattle.frames.specs.declared.Entry.{Entry}
 use Rattle.frames.specs.Contents as frame
@@ -13,8 +13,8 @@ use Rattle.history.specs.Laws.{Grows}
 -- and none decided.
 pub record Put (p : Plan) (sent : List Entry) (ds : List (List Entry)) (new : List Entry) : Type 0 where
   pub lawful : LawfulList p new
-  pub undecided : All (λ i. has i (flat_map ids_of ds) ≡ false) (ids_of new)
-  pub were_sent : All (Has sent) new
+  pub undecided : AllByRecursion (λ i. has i (flat_map ids_of ds) ≡ false) (ids_of new)
+  pub were_sent : AllByRecursion (Has sent) new
 
 -- What a frame's token carries, as a history keeps it.
 abbrev pub carried : frame.Token → Token Entry

@@ -2,7 +2,7 @@
 use Rattle.std.specs.Prelude.{◌≡◌, ℕ, ◌⊎◌, List, [], ◌∷◌, ◌++◌, map}
 use mathlib.Core.List.{Memᴰ}
 use Rattle.std.proofs.Math.Option.{Option, some}
-use Rattle.std.specs.List.{ContainsAt as Has, flat_map, AllByRecursion as All}
+use Rattle.std.specs.List.{ContainsAt as Has, flat_map, AllByRecursion}
 use Rattle.frames.specs.Contents.{Once}
 use Rattle.history.specs.Tokens.{Token, Relation, Rule}
 
@@ -58,9 +58,9 @@ Clear id ds new = Once (flat_map (map id) ds) (map id new)
 abbrev pub flat : {A : Type 0} → List (List A) → List A
 flat ds = flat_map (λ d. d) ds
 
--- All entries of a token are among those sent.
+-- AllByRecursion entries of a token are among those sent.
 abbrev pub Sent : {E : Type 0} → List E → Token E → Type 0
-Sent sent t = All (Has sent) t.proposal × All (Has sent) (flat t.decisions)
+Sent sent t = AllByRecursion (Has sent) t.proposal × AllByRecursion (Has sent) (flat t.decisions)
 
 -- Nothing is invented: all entries of all tokens are among those sent.
 abbrev pub Uninvented : {E : Type 0} → List E → Relation E → Type 0
@@ -68,4 +68,4 @@ Uninvented {E} sent Made = (s : ℕ) (t : Token E) → Made s t → Sent sent t
 
 -- A new proposal has only entries that were sent.
 abbrev pub From : {E : Type 0} → List E → Rule E
-From sent ds new = All (Has sent) new
+From sent ds new = AllByRecursion (Has sent) new

@@ -1,6 +1,6 @@
 -- One more byte, entry or decision told.
 use Rattle.std.proofs.Common.{◌≡◌, ℕ, zero, suc, ◌+◌, ◌/◌, ◌%◌, ◌<◌, ◌≤◌, List, [], ◌∷◌, ◌++◌, length, get_or, take, Some, None, Option, sym, refl, ap, ◌∙◌, subst, arith, length-take}
-use Rattle.std.specs.List.{flat_map, AllByRecursion as All, slice_get}
+use Rattle.std.specs.List.{flat_map, AllByRecursion, slice_get}
 use Rattle.std.proofs.lemmas.List.{take_more, flat_map_more, append_assoc, append-nil}
 use Rattle.std.proofs.lemmas.Bool.Decides.{nat_tests}
 use Rattle.std.specs.Option.{option_map}
@@ -51,7 +51,7 @@ byte_told bs all mid after i x y h a m e two =
     e ∙ ap (λ z. z ++ y ∷ []) m ∙ g ∙ ap (λ z. z ++ x ∷ y ∷ []) a ∙ ap (λ z. line_of (take i bs) ++ z) two ∙ s
 
 -- what stands at a place of a list of which all is so
-pub place_of : {X : Type 0} (P : X → Type 0) (xs : List X) (i : ℕ) (x : X) → All P xs → Some x ≡ slice_get xs i → P x × (i < length xs)
+pub place_of : {X : Type 0} (P : X → Type 0) (xs : List X) (i : ℕ) (x : X) → AllByRecursion P xs → Some x ≡ slice_get xs i → P x × (i < length xs)
 place_of P [] i x a q = let z : ◌≡◌ {A = ℕ} 0 1 = cc in absurd (omega arith)
 place_of P (y ∷ ys) zero x a q = let e : y ≡ x = cc in (subst P e a.0, omega arith)
 place_of P (y ∷ ys) (suc i) x a q = let h = place_of P ys i x a.1 q in (h.0, omega arith)

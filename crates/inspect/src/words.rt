@@ -1,5 +1,5 @@
 ghost use Rattle.std.specs.Prelude.{◌≡◌, List, ◌++◌, length, IfOk, string_bytes, OnOk};
-ghost use Rattle.std.specs.List.{flat_map, AllByRecursion as All};
+ghost use Rattle.std.specs.List.{flat_map, AllByRecursion};
 ghost use Rattle.frames.specs.declared.plan.Plan.{Plan as APlan};
 ghost use Rattle.frames.specs.declared.Entry.{Entry as AnEntry};
 ghost use Rattle.frames.specs.Contents.{Content, Lawful, entry_bytes, decision_bytes, Whole};
@@ -59,7 +59,7 @@ fn votes_words(heap: Global, votes: u8) -> Result<String, AllocError>
 
 /// The lines of text for decisions, which are numbered from 1.
 fn decision_lines(heap: Global, decided: u8, decisions: &[u8]) -> Result<String, AllocError>
-    ensures { IfOk result (λ s. (ds : List (List AnEntry)) → All (All Whole) ds → decided ≡ length ds → decisions.now ≡ flat_map decision_bytes ds → string_bytes s ≡ decision_lines 1 ds) }
+    ensures { IfOk result (λ s. (ds : List (List AnEntry)) → AllByRecursion (AllByRecursion Whole) ds → decided ≡ length ds → decisions.now ≡ flat_map decision_bytes ds → string_bytes s ≡ decision_lines 1 ds) }
 {
     let mut all = String::new(heap);
     for k in 0..decided as usize {
@@ -77,7 +77,7 @@ fn push_decision(
     number: usize,
     part: &[u8],
 ) -> Result<(), AllocError>
-    ensures { OnOk result ((es : List AnEntry) → All Whole es → part.now ≡ flat_map entry_bytes es → string_bytes all.new ≡ string_bytes all.old ++ entry_lines (numbered number) es) }
+    ensures { OnOk result ((es : List AnEntry) → AllByRecursion Whole es → part.now ≡ flat_map entry_bytes es → string_bytes all.new ≡ string_bytes all.old ++ entry_lines (numbered number) es) }
 {
     let prefix = format!(in heap; "  decision {number}: ")?;
     let lines = entry_lines(heap, prefix.as_str(), part)?;
@@ -86,7 +86,7 @@ fn push_decision(
 
 /// A line of text for each entry.
 fn entry_lines(heap: Global, prefix: &str, part: &[u8]) -> Result<String, AllocError>
-    ensures { IfOk result (λ s. (es : List AnEntry) → All Whole es → part.now ≡ flat_map entry_bytes es → string_bytes s ≡ entry_lines prefix.now es) }
+    ensures { IfOk result (λ s. (es : List AnEntry) → AllByRecursion Whole es → part.now ≡ flat_map entry_bytes es → string_bytes s ≡ entry_lines prefix.now es) }
 {
     let mut all = String::new(heap);
     for i in 0..entry_count(part) {

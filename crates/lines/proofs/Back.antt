@@ -1,6 +1,6 @@
 -- What is written as a line reads back, and what is read was written.
 use Rattle.std.proofs.Common.{◌≡◌, ℕ, suc, ◌+◌, ◌*◌, ◌/◌, ◌%◌, ◌<◌, ◌≤◌, Bool, true, false, cond, eqb, ltb, ◌≢◌, List, [], ◌∷◌, length, is_some, Some, None, Ok, Err, Result, unwrap_or, sym, refl, ap, ◌∙◌, subst, inl, inr, arith}
-use Rattle.std.specs.List.{AllByRecursion as All}
+use Rattle.std.specs.List.{AllByRecursion}
 use Rattle.std.proofs.lemmas.Bool.Decides.{nat_tests}
 use Rattle.std.proofs.lemmas.Bool.{cond-true, cond-false, or_from, or_parts, ltb-false, eqb-false, le-ltb, ne_eqb, cases_Bool}
 use Rattle.frames.specs.declared.FrameFault.{FrameFault}
@@ -33,7 +33,7 @@ line_length : (bs : List ℕ) → length (line_of bs) ≡ 2 * length bs
 line_length [] = refl
 line_length (b ∷ bs) = let ih = line_length bs in omega arith
 
-line_digits : (bs : List ℕ) → All (λ b. b < 256) bs → digits_end (line_of bs) ≡ length (line_of bs)
+line_digits : (bs : List ℕ) → AllByRecursion (λ b. b < 256) bs → digits_end (line_of bs) ≡ length (line_of bs)
 line_digits [] a = refl
 line_digits (b ∷ bs) a =
     let small = a.0 in
@@ -42,7 +42,7 @@ line_digits (b ∷ bs) a =
     let ih = line_digits bs a.1 in
     cond-true _ _ _ high ∙ ap (λ z. 1 + z) (cond-true _ _ _ low) ∙ ap (λ z. 1 + (1 + z)) ih ∙ omega arith
 
-line_held : (bs : List ℕ) → All (λ b. b < 256) bs → bytes_in (line_of bs) ≡ bs
+line_held : (bs : List ℕ) → AllByRecursion (λ b. b < 256) bs → bytes_in (line_of bs) ≡ bs
 line_held [] a = refl
 line_held (b ∷ bs) a =
     let small = a.0 in
@@ -54,7 +54,7 @@ line_held (b ∷ bs) a =
 
 -- Bytes of lines
 
-held_small : (cs : List ℕ) → All (λ b. b < 256) (bytes_in cs)
+held_small : (cs : List ℕ) → AllByRecursion (λ b. b < 256) (bytes_in cs)
 held_small [] = tt
 held_small (c ∷ []) = tt
 held_small (c ∷ d ∷ cs) = (omega (arith, value_small c, value_small d), held_small cs)
@@ -89,7 +89,7 @@ read_good false e bs cs q = (refl, cc)
 good_reads : (cs : List ℕ) → bad_line cs ≡ false → line_bytes cs ≡ Ok (bytes_in cs)
 good_reads cs g = ap (λ z. refused_or z (bytes_in cs)) (cond-false _ _ _ g)
 
-pub reads_back : (bs : List ℕ) → All (λ b. b < 256) bs → 0 < length bs → length bs ≤ frame_room → line_bytes (line_of bs) ≡ Ok bs
+pub reads_back : (bs : List ℕ) → AllByRecursion (λ b. b < 256) bs → 0 < length bs → length bs ≤ frame_room → line_bytes (line_of bs) ≡ Ok bs
 reads_back bs a some few =
     let n = line_length bs in
     let d = line_digits bs a in
@@ -113,10 +113,10 @@ good_line cs bs q =
     let third = or_parts (eqb (length cs % 2) 1) (ltb line_room (length cs)) second.1 in
     (record { digits = ltb-false _ _ first.0; even = eqb-false _ _ third.0; few = ltb-false _ _ third.1 }, r.1)
 
-pub writes_back : (cs bs : List ℕ) → line_bytes cs ≡ Ok bs → (line_of bs ≡ cs) × All (λ b. b < 256) bs
+pub writes_back : (cs bs : List ℕ) → line_bytes cs ≡ Ok bs → (line_of bs ≡ cs) × AllByRecursion (λ b. b < 256) bs
 writes_back cs bs q =
     let (good, same) = good_line cs bs q in
-    (ap line_of (sym same) ∙ held_line cs good.digits good.even, subst (All (λ b. b < 256)) same (held_small cs))
+    (ap line_of (sym same) ∙ held_line cs good.digits good.even, subst (AllByRecursion (λ b. b < 256)) same (held_small cs))
 
 pub one_line : (cs ds bs : List ℕ) → line_bytes cs ≡ Ok bs → line_bytes ds ≡ Ok bs → cs ≡ ds
 one_line cs ds bs p q = sym (writes_back cs bs p).0 ∙ (writes_back ds bs q).0

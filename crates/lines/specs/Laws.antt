@@ -1,6 +1,6 @@
 -- What lines are to bytes and to frames.
 use Rattle.std.specs.Prelude.{◌≡◌, ℕ, ◌<◌, ◌≤◌, List, length, Ok}
-use Rattle.std.specs.List.{AllByRecursion as All}
+use Rattle.std.specs.List.{AllByRecursion}
 use Rattle.frames.specs.declared.plan.Plan.{Plan}
 use Rattle.frames.specs.Contents.{Content, Lawful, bytes_of}
 use Rattle.lines.specs.Digits.{line_of}
@@ -8,11 +8,11 @@ use Rattle.lines.specs.Reads.{frame_room, line_bytes, line_as}
 
 -- bytes written as a line read back as the same bytes
 abbrev pub LineReadsBack : Type 0
-LineReadsBack = (bs : List ℕ) → All (λ b. b < 256) bs → 0 < length bs → length bs ≤ frame_room → line_bytes (line_of bs) ≡ Ok bs
+LineReadsBack = (bs : List ℕ) → AllByRecursion (λ b. b < 256) bs → 0 < length bs → length bs ≤ frame_room → line_bytes (line_of bs) ≡ Ok bs
 
 -- a line that is read, written again, is the same line, and what it holds are bytes
 abbrev pub LineWritesBack : Type 0
-LineWritesBack = (cs bs : List ℕ) → line_bytes cs ≡ Ok bs → (line_of bs ≡ cs) × All (λ b. b < 256) bs
+LineWritesBack = (cs bs : List ℕ) → line_bytes cs ≡ Ok bs → (line_of bs ≡ cs) × AllByRecursion (λ b. b < 256) bs
 
 -- no two lines hold the same bytes
 abbrev pub OneLine : Type 0

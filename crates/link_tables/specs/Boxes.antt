@@ -1,7 +1,7 @@
 -- The frames for one box among the slots of a tray.
 use Rattle.std.specs.Prelude.{◌≡◌, ℕ, zero, suc, ◌+◌, ◌<◌, ◌≤◌, Bool, true, false, cond, not, ◌≢◌, List, [], ◌∷◌, ◌++◌, map, length, get_or, take, drop, filter, ◌==◌, nat_eq, nat_lt, slice_index_or, slice_set, refl}
 use Rattle.std.proofs.Common.{sym, ap, ap₂, ◌∙◌, arith, add-one}
-use Rattle.std.specs.List.{remove, AllByRecursion as All}
+use Rattle.std.specs.List.{remove, AllByRecursion}
 use Rattle.std.proofs.lemmas.List.Elements.{filter-append}
 use Rattle.std.proofs.ByRecursion.{All-map}
 use Rattle.std.proofs.lemmas.List.Filters.{length-filter_both}
@@ -94,7 +94,7 @@ few b xs =
     let p : Addressed → Bool = λ a. nat_eq a.to b in
     omega (arith, length-map (filter p xs) frame_of, length-filter_both p (λ a. not (p a)) (λ a. refl) xs)
 
-pub tray_lawful : (b : ℕ) (xs : List Addressed) → All Lawful (frames_for b xs)
+pub tray_lawful : (b : ℕ) (xs : List Addressed) → AllByRecursion Lawful (frames_for b xs)
 tray_lawful b xs =
     let p : Addressed → Bool = λ a. nat_eq a.to b in
     All-map Lawful frame_of (filter p xs) (all_everywhere (λ a. Lawful (frame_of a)) (λ a. held_lawful a.held) (filter p xs))

@@ -1,7 +1,7 @@
 -- The frames of the lines.
 use Rattle.std.specs.Prelude.{◌≡◌, ℕ, zero, suc, ◌+◌, ◌<◌, ◌≤◌, true, false, leb, ◌≢◌, List, [], ◌∷◌, ◌++◌, map, length, get_or, take, drop, nat_le, nat_lt, slice_index_or, slice_set}
 use Rattle.std.proofs.Common.{sym, ap, subst, ◌∙◌, ⊎_elim, arith}
-use Rattle.std.specs.List.{remove, AllByRecursion as All}
+use Rattle.std.specs.List.{remove, AllByRecursion}
 use Rattle.std.proofs.ByRecursion.{All-map}
 use Rattle.std.proofs.lemmas.List.{take_more_set, map_push, map-set, map-append, take-map, drop-map, get_or-map, get_or-set_same, get_or-set_other, get_or_past, length-map, length_push, length-take-le}
 use Rattle.std.proofs.lemmas.List.Edits.{length-remove}
@@ -46,7 +46,7 @@ on_found lines b l inside read = ap (λ (x : Line). x.used) read ∙ sym (on_len
 pub none_found : (lines : List Line) (b : ℕ) → false ≡ nat_lt b (length lines) → 0 ≡ length (slice_index_or (map line_frames lines) b [])
 none_found lines b past = sym (ap length (get_or_past (map line_frames lines) b [] (omega (arith, length-map lines line_frames, ltb-false b (length lines) (sym past)))))
 
-pub lines_lawful : (lines : List Line) (b : ℕ) → All Lawful (slice_index_or (map line_frames lines) b [])
+pub lines_lawful : (lines : List Line) (b : ℕ) → AllByRecursion Lawful (slice_index_or (map line_frames lines) b [])
 lines_lawful [] b = tt
 lines_lawful (l ∷ lines) zero = All-map Lawful bytes_of (take l.used l.slots) (all_everywhere (λ h. Lawful (bytes_of h)) held_lawful (take l.used l.slots))
 lines_lawful (l ∷ lines) (suc b) = lines_lawful lines b

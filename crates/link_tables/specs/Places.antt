@@ -2,7 +2,7 @@
 use Rattle.std.specs.Prelude.{◌≡◌, ℕ, suc, ◌-◌, ◌<◌, ◌≤◌, List, [], ◌∷◌, ◌++◌, length, take, drop, slice_index_or, refl}
 use Rattle.std.proofs.Common.{sym, ap, ap₂, ◌∙◌, append_assoc, arith, add-one, length-drop}
 use borrow.Rule.Slice.PartMut.{put_mid}
-use Rattle.std.specs.List.{remove, AllByRecursion as All}
+use Rattle.std.specs.List.{remove, AllByRecursion}
 use Rattle.std.proofs.lemmas.List.{take_rest, take_at, drop-drop, length-append, length-take-le, get_or_default, take-take, take-append-drop, take-append-le, drop-append-le}
 use Rattle.std.proofs.lemmas.List.Edits.{length-remove}
 
@@ -24,7 +24,7 @@ pub element : {X : Type 0} (xs : List X) (k : ℕ) → k < length xs → (x : X)
 element [] k h = absurd (omega arith)
 element (y ∷ xs) k h = (slice_index_or (y ∷ xs) k y, get_or_default (y ∷ xs) k y (slice_index_or (y ∷ xs) k y) h)
 
-pub all_everywhere : {X : Type 0} (P : X → Type 0) → ((x : X) → P x) → (xs : List X) → All P xs
+pub all_everywhere : {X : Type 0} (P : X → Type 0) → ((x : X) → P x) → (xs : List X) → AllByRecursion P xs
 all_everywhere P h [] = tt
 all_everywhere P h (x ∷ xs) = (h x, all_everywhere P h xs)
 

@@ -1,6 +1,6 @@
 -- The meaning of a link: for each box the frames that wait for it, oldest first, and whether it is full.
 use Rattle.std.specs.Prelude.{◌≡◌, ℕ, ◌<◌, ◌≤◌, Bool, false, List, [], length}
-use Rattle.std.specs.List.{AllByRecursion as All}
+use Rattle.std.specs.List.{AllByRecursion}
 use Rattle.frames.specs.Contents.{frame_most}
 
 -- the longest frame, in bytes
@@ -24,4 +24,4 @@ abbrev pub Lawful : List ℕ → Type 0
 Lawful frame = (0 < length frame) × (length frame ≤ longest)
 
 abbrev pub LawfulMail : Mail → Type 0
-LawfulMail m = (b : ℕ) → All Lawful (m.waiting b)
+LawfulMail m = (b : ℕ) → AllByRecursion Lawful (m.waiting b)

@@ -1,6 +1,6 @@
 -- What a table of entries holds, and what each change makes of it.
 use Rattle.std.specs.Prelude.{◌≡◌, ℕ, ◌<◌, Bool, false, cond, not, ◌&&◌, List, [], ◌∷◌, ◌++◌, length, take, drop, replicate, filter, nat_le, nat_lt, slice_index_or}
-use Rattle.std.specs.List.{AllByRecursion as All}
+use Rattle.std.specs.List.{AllByRecursion}
 use Rattle.frames.specs.declared.Entry.{Entry}
 use Rattle.frames.specs.Contents.{has, ids_of, Ascend}
 pub use Rattle.frames.specs.Contents.{Marks}
@@ -61,4 +61,4 @@ Unflagged flags es es' = (i : ℕ) → has i (ids_of es') ≡ (not (slice_index_
 -- with the flags of some ids, the entries of other ids stay
 abbrev pub LeavesMarked : List Bool → List Entry → List Entry → Type 0
 LeavesMarked flags es es' =
-    (ids : List ℕ) → Marks flags ids → All (λ (e : Entry). e.id < 256) es → es' ≡ filter (λ (e : Entry). not (has e.id ids)) es
+    (ids : List ℕ) → Marks flags ids → AllByRecursion (λ (e : Entry). e.id < 256) es → es' ≡ filter (λ (e : Entry). not (has e.id ids)) es

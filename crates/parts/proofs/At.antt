@@ -1,6 +1,6 @@
 -- An entry of a list of entries, out of their bytes.
 use Rattle.std.proofs.Common.{◌≡◌, ℕ, zero, suc, ◌+◌, ◌-◌, ◌*◌, ◌/◌, ◌<◌, ◌≤◌, List, [], ◌∷◌, ◌++◌, length, get_or, take, drop, Some, sym, ap, ◌∙◌, arith}
-use Rattle.std.specs.List.{flat_map, AllByRecursion as All, slice_get}
+use Rattle.std.specs.List.{flat_map, AllByRecursion, slice_get}
 use Rattle.std.proofs.lemmas.List.{drop-drop, drop_at, take_at, get_or-drop}
 use Rattle.std.proofs.lemmas.Option.{slice_get_past}
 use Rattle.frames.specs.declared.Entry.{Entry}
@@ -8,10 +8,10 @@ use Rattle.frames.specs.Contents.{Whole, entry_bytes}
 use Rattle.frames.proofs.Written.{joined_length}
 use Rattle.frames.specs.Reading.{entry_in}
 
-pub count_of : (bs : List ℕ) (es : List Entry) → All Whole es → bs ≡ flat_map entry_bytes es → length bs / 9 ≡ length es
+pub count_of : (bs : List ℕ) (es : List Entry) → AllByRecursion Whole es → bs ≡ flat_map entry_bytes es → length bs / 9 ≡ length es
 count_of bs es w q = let n = ap length q ∙ joined_length es w in omega arith
 
-entry_of : (es : List Entry) (i : ℕ) → All Whole es → i < length es → Some (entry_in (drop (9 * i) (flat_map entry_bytes es))) ≡ slice_get es i
+entry_of : (es : List Entry) (i : ℕ) → AllByRecursion Whole es → i < length es → Some (entry_in (drop (9 * i) (flat_map entry_bytes es))) ≡ slice_get es i
 entry_of [] i w h = absurd (omega arith)
 entry_of (e ∷ es) zero w h = let body = take_at e.body (flat_map entry_bytes es) 8 w.0.eight in λ k. Some (record { id = e.id; body = body k })
 entry_of (e ∷ es) (suc i) w h =
@@ -21,10 +21,10 @@ entry_of (e ∷ es) (suc i) w h =
     ∙ ap (drop (9 * i)) (drop_at (entry_bytes e) (flat_map entry_bytes es) 9 (ap suc w.0.eight)) in
     ap (λ z. Some (entry_in z)) d ∙ entry_of es i w.1 (omega arith)
 
-pub entry_past : (bs : List ℕ) (es : List Entry) (i : ℕ) → length bs / 9 ≤ i → All Whole es → bs ≡ flat_map entry_bytes es → slice_get es i ≡ slice_get {X = Entry} [] i
+pub entry_past : (bs : List ℕ) (es : List Entry) (i : ℕ) → length bs / 9 ≤ i → AllByRecursion Whole es → bs ≡ flat_map entry_bytes es → slice_get es i ≡ slice_get {X = Entry} [] i
 entry_past bs es i h w q = let n = count_of bs es w q in slice_get_past es i (omega arith)
 
-pub entry_is : (bs : List ℕ) (es : List Entry) (i : ℕ) → i < length bs / 9 → All Whole es → bs ≡ flat_map entry_bytes es → Some (entry_in (drop (9 * i) bs)) ≡ slice_get es i
+pub entry_is : (bs : List ℕ) (es : List Entry) (i : ℕ) → i < length bs / 9 → AllByRecursion Whole es → bs ≡ flat_map entry_bytes es → Some (entry_in (drop (9 * i) bs)) ≡ slice_get es i
 entry_is bs es i h w q = let n = count_of bs es w q in ap (λ z. Some (entry_in (drop (9 * i) z))) q ∙ entry_of es i w (omega arith)
 
 -- the entry from its parts

@@ -1,6 +1,6 @@
 -- One decision after another.
 use Rattle.std.proofs.Common.{◌≡◌, ℕ, zero, suc, ◌+◌, ◌-◌, ◌*◌, ◌<◌, ◌≤◌, List, [], ◌∷◌, ◌++◌, length, get_or, take, drop, Some, None, Option, sym, refl, ap, ◌∙◌, arith, length-append}
-use Rattle.std.specs.List.{flat_map, AllByRecursion as All, slice_get}
+use Rattle.std.specs.List.{flat_map, AllByRecursion, slice_get}
 use Rattle.std.specs.Option.{option_map}
 use Rattle.std.proofs.lemmas.List.{drop_at, take_at}
 use Rattle.std.proofs.lemmas.Bool.{cond-true, cond-false, le-leb, lt-leb}
@@ -22,7 +22,7 @@ pub split_none : (bs : List ℕ) → length bs < 1 → split_as bs ≡ None
 split_none [] h = refl
 split_none (c ∷ bs) h = absurd (omega arith)
 
-pub split_of : (d : List Entry) (ds : List (List Entry)) → All Whole d → split_as (flat_map decision_bytes (d ∷ ds)) ≡ Some (flat_map entry_bytes d, flat_map decision_bytes ds)
+pub split_of : (d : List Entry) (ds : List (List Entry)) → AllByRecursion Whole d → split_as (flat_map decision_bytes (d ∷ ds)) ≡ Some (flat_map entry_bytes d, flat_map decision_bytes ds)
 split_of d ds w =
     let n = joined_length d w in
     let all = length-append (flat_map entry_bytes d) (flat_map decision_bytes ds) in
@@ -31,7 +31,7 @@ split_of d ds w =
     let rest = drop_at (flat_map entry_bytes d) (flat_map decision_bytes ds) (9 * length d) n in
     cond-true _ _ _ t ∙ (λ i. Some (first i, rest i))
 
-pub decision_of : (ds : List (List Entry)) (k : ℕ) → All (All Whole) ds → decision_at k (flat_map decision_bytes ds) ≡ option_map (flat_map entry_bytes) (slice_get ds k)
+pub decision_of : (ds : List (List Entry)) (k : ℕ) → AllByRecursion (AllByRecursion Whole) ds → decision_at k (flat_map decision_bytes ds) ≡ option_map (flat_map entry_bytes) (slice_get ds k)
 decision_of [] zero w = refl
 decision_of [] (suc k) w = refl
 decision_of (d ∷ ds) zero w = ap (option_map (λ s. s.0)) (split_of d ds w.0)

@@ -1,6 +1,6 @@
 -- What a frame shows is what comes out of it.
 use Rattle.std.proofs.Common.{◌≡◌, ℕ, ◌<◌, ◌≤◌, true, List, [], ◌∷◌, ◌++◌, length, is_some, Some, Ok, Err, Option, Result, sym, ap, ◌∙◌, subst, arith, length-append}
-use Rattle.std.specs.List.{flat_map, AllByRecursion as All, slice_get}
+use Rattle.std.specs.List.{flat_map, AllByRecursion, slice_get}
 use Rattle.std.proofs.lemmas.List.{length-map}
 use Rattle.std.proofs.ByRecursion.{All-append, All-map, All-weaker}
 use Rattle.std.proofs.lemmas.Bool.{le-leb}
@@ -33,7 +33,7 @@ shown_read p bs f s = ap (read_as p) (sym s.written) ∙ written p s.contents s.
 module _ (p : Plan) where
   -- the first entry, out of the bytes of entries
   abbrev Reads : List ℕ → Option Entry → Type 0
-  Reads part r = (es : List Entry) → All Whole es → part ≡ flat_map entry_bytes es → r ≡ slice_get es 0
+  Reads part r = (es : List Entry) → AllByRecursion Whole es → part ≡ flat_map entry_bytes es → r ≡ slice_get es 0
 
   order_read : (e : Entry) (part : List ℕ) (r : Option Entry) → LawfulEntry p e → part ≡ entry_bytes e → Reads part r → r ≡ Some e
   order_read e part r l same reads = reads (e ∷ []) (whole_entries p (e ∷ []) (l, tt)) (same ∙ sym (append_none (entry_bytes e)))
@@ -49,10 +49,10 @@ module _ (p : Plan) where
       (ap order same, subst (LawfulEntry p) (sym same) l)
   order_out (token t) part r e l seen reads got = clash (cc)
 
-  in_range : (es : List Entry) → All (LawfulEntry p) es → All (InRange p) (ids_of es)
+  in_range : (es : List Entry) → AllByRecursion (LawfulEntry p) es → AllByRecursion (InRange p) (ids_of es)
   in_range es l = All-map (InRange p) (λ (e : Entry). e.id) es (All-weaker (LawfulEntry p) (λ (e : Entry). InRange p e.id) (λ e h. h.id_in_range) es l)
 
-  decided_in_range : (ds : List (List Entry)) → All (LawfulDecision p) ds → All (InRange p) (flat_map ids_of ds)
+  decided_in_range : (ds : List (List Entry)) → AllByRecursion (LawfulDecision p) ds → AllByRecursion (InRange p) (flat_map ids_of ds)
   decided_in_range [] l = tt
   decided_in_range (d ∷ ds) l =
       All-append (InRange p) (ids_of d) (flat_map ids_of ds) (in_range d l.0.entries.each) (decided_in_range ds l.1)

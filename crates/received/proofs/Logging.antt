@@ -1,6 +1,6 @@
 -- Decisions out of their bytes into a log, one after another.
 use Rattle.std.proofs.Common.{◌≡◌, ℕ, ◌+◌, ◌*◌, ◌<◌, ◌≤◌, Bool, true, cond, leb, List, [], ◌∷◌, ◌++◌, length, Some, None, Option, sym, refl, ap, ◌∙◌, subst, inl, inr, append_assoc, arith, length-append, length-drop}
-use Rattle.std.specs.List.{flat_map, AllByRecursion as All}
+use Rattle.std.specs.List.{flat_map, AllByRecursion}
 use Rattle.std.proofs.lemmas.List.{length-map, flat_map_more}
 use Rattle.std.proofs.lemmas.Bool.{cond-true, cond-false, cases_Bool}
 use Rattle.frames.specs.declared.Entry.{Entry}
@@ -27,7 +27,7 @@ pub record Midway (ds : List (List Entry)) (left : List ℕ) (l : Log) : Type 0 
 -- what first_decision says of the bytes of decisions
 abbrev pub Splits : Option (List ℕ × List ℕ) → List ℕ → Type 0
 Splits s left =
-    (d : List Entry) (ds : List (List Entry)) → All Whole d → left ≡ flat_map decision_bytes (d ∷ ds) → s ≡ Some (flat_map entry_bytes d, flat_map decision_bytes ds)
+    (d : List Entry) (ds : List (List Entry)) → AllByRecursion Whole d → left ≡ flat_map decision_bytes (d ∷ ds) → s ≡ Some (flat_map entry_bytes d, flat_map decision_bytes ds)
 
 never : {A : Type 0} (a : A) → None ≡ Some a → ⊥
 never a e = let z : ◌≡◌ {A = ℕ} 0 1 = cc in absurd (omega arith)
@@ -47,12 +47,12 @@ at_start ds left l e none sound b =
       counted = ap (λ (x : Log). x.entries.count) e;
     }
 
-middle : {X : Type 0} (P : X → Type 0) (xs : List X) (y : X) (ys : List X) → All P (xs ++ y ∷ ys) → P y
+middle : {X : Type 0} (P : X → Type 0) (xs : List X) (y : X) (ys : List X) → AllByRecursion P (xs ++ y ∷ ys) → P y
 middle P [] y ys a = a.0
 middle P (x ∷ xs) y ys a = middle P xs y ys a.1
 
 -- how the entries of one decision more stand to those of all
-room_for : (done : List (List Entry)) (d : List Entry) (rest : List (List Entry)) → All (λ (x : List Entry). 0 < length x) (done ++ d ∷ rest) →
+room_for : (done : List (List Entry)) (d : List Entry) (rest : List (List Entry)) → AllByRecursion (λ (x : List Entry). 0 < length x) (done ++ d ∷ rest) →
     (length done ≤ length (flat_map ids_of done)) × (length (flat_map ids_of done) + length d ≤ length (flat_map ids_of (done ++ d ∷ rest)))
 room_for [] d rest s =
     let a = length-append (ids_of d) (flat_map ids_of rest) in
@@ -78,7 +78,7 @@ module _ (ds : List (List Entry)) (left left' first : List ℕ) (t : Entries) (l
       go done (d ∷ rest) w b lg de co =
           let g' : Loggable (done ++ d ∷ rest) = subst (λ x. Loggable x) (sym w) g in
           let some = middle (λ (x : List Entry). 0 < length x) done d rest g'.some in
-          let wh = middle (All Whole) done d rest g'.whole in
+          let wh = middle (AllByRecursion Whole) done d rest g'.whole in
           let fits = room_for done d rest g'.some in
           let few = g'.few in
           let split = both _ _ (splits d rest wh b) in
@@ -109,7 +109,7 @@ at_end ds left l g splits m = go m.rest m.whole m.bytes
   where
     go : (rest : List (List Entry)) → m.done ++ rest ≡ ds → left ≡ flat_map decision_bytes rest → Logged ds l
     go [] w b = subst (λ x. Logged x l) (sym (append_none m.done) ∙ w) m.logged
-    go (d ∷ rest) w b = absurd (never _ (splits d rest (middle (All Whole) m.done d rest (subst (All (All Whole)) (sym w) g.whole)) b))
+    go (d ∷ rest) w b = absurd (never _ (splits d rest (middle (AllByRecursion Whole) m.done d rest (subst (AllByRecursion (AllByRecursion Whole)) (sym w) g.whole)) b))
 
 pub shorter : (left first left' : List ℕ) → Some (first, left') ≡ split_as left → length left' < length left
 shorter [] first left' e = absurd (never _ (sym e))

@@ -1,6 +1,6 @@
 -- What comes out of the bytes of entries and of decisions.
 use Rattle.std.specs.Prelude.{◌≡◌, ℕ, ◌<◌, ◌≤◌, true, List, length}
-use Rattle.std.specs.List.{flat_map, AllByRecursion as All}
+use Rattle.std.specs.List.{flat_map, AllByRecursion}
 use Rattle.frames.specs.declared.Entry.{Entry}
 use Rattle.frames.specs.Contents.{Whole, entry_bytes, decision_bytes, ids_of}
 use Rattle.lists.specs.declared.Entries.{Entries}
@@ -15,7 +15,7 @@ pub record Tabled (es : List Entry) (t : Entries) : Type 0 where
 
 -- out of the bytes of entries that a table has room for come those entries
 abbrev pub EntriesOut : List ℕ → Entries → Type 0
-EntriesOut bs t = (es : List Entry) → All Whole es → bs ≡ flat_map entry_bytes es → length es ≤ room → Tabled es t
+EntriesOut bs t = (es : List Entry) → AllByRecursion Whole es → bs ≡ flat_map entry_bytes es → length es ≤ room → Tabled es t
 
 -- the log has just these decisions, and adds up
 pub record Logged (ds : List (List Entry)) (l : Log) : Type 0 where
@@ -24,8 +24,8 @@ pub record Logged (ds : List (List Entry)) (l : Log) : Type 0 where
 
 -- decisions that a log takes: none is empty, and there is room for the entries of all
 pub record Loggable (ds : List (List Entry)) : Type 0 where
-  pub whole : All (All Whole) ds
-  pub some : All (λ (d : List Entry). 0 < length d) ds
+  pub whole : AllByRecursion (AllByRecursion Whole) ds
+  pub some : AllByRecursion (λ (d : List Entry). 0 < length d) ds
   pub few : length (flat_map ids_of ds) ≤ room
 
 -- out of the bytes of such decisions come those decisions

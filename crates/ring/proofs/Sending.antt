@@ -1,6 +1,6 @@
 -- The next order of a record that keeps the rules and has a serial left.
 use Rattle.std.proofs.Common.{◌≡◌, ℕ, ◌+◌, ◌<◌, ◌≤◌, List, length, sym, subst, arith}
-use Rattle.std.specs.List.{AllByRecursion as All}
+use Rattle.std.specs.List.{AllByRecursion}
 use Rattle.std.proofs.lemmas.Bool.{leb-true, le-leb, and_from}
 use Rattle.frames.specs.declared.plan.Plan.{Plan}
 use Rattle.frames.specs.declared.Entry.{Entry}
@@ -22,7 +22,7 @@ use Rattle.ring.specs.Calls.{sent_row}
 pub few_unordered : (p : Plan) (unordered : List Entry) (log : List (List Entry)) → Lists p unordered log → length unordered ≤ room
 few_unordered p unordered log l = omega (arith, p.most, few_entries p (listed unordered log) (lists_as_token.there p unordered log l))
 
-module _ (p : Plan) (i : ℕ) (r : BoxRecord) (k : KeepsRules p i r) (left : r.last < 15) (body : List ℕ) (eight : length body ≡ 8) (bytes : All (λ b. b < 256) body) where
+module _ (p : Plan) (i : ℕ) (r : BoxRecord) (k : KeepsRules p i r) (left : r.last < 15) (body : List ℕ) (eight : length body ≡ 8) (bytes : AllByRecursion (λ b. b < 256) body) where
   abbrev more : List Entry
   more = inserted (next_entry (box_of r) body) (held r.unordered)
 

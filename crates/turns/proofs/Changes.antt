@@ -1,6 +1,6 @@
 -- How much lawful lists can hold, and what a record's tables hold as it changes.
 use Rattle.std.proofs.Common.{◌≡◌, ℕ, ◌+◌, ◌<◌, ◌≤◌, Bool, true, false, cond, not, ◌&&◌, eqb, ltb, leb, List, [], ◌∷◌, ◌++◌, length, get_or, Ok, Option, sym, refl, ap, subst, arith}
-use Rattle.std.specs.List.{AllByRecursion as All}
+use Rattle.std.specs.List.{AllByRecursion}
 use Rattle.std.proofs.lemmas.Bool.Decides.{nat_tests}
 use Rattle.std.proofs.lemmas.Bool.{and_from, cond_both, le-leb, leb-true}
 use Rattle.std.proofs.lemmas.List.Filters.{length-filter_both}
@@ -30,15 +30,15 @@ use Rattle.records.specs.Records.{box_of, turn_fits, tables_fit, KeepsRules}
 -- Room
 
 module _ (p : Plan) where
-  in_range : (es : List Entry) → All (LawfulEntry p) es → All (InRange p) (ids_of es)
+  in_range : (es : List Entry) → AllByRecursion (LawfulEntry p) es → AllByRecursion (InRange p) (ids_of es)
   in_range es l = All-map (InRange p) (λ (e : Entry). e.id) es (All-weaker (LawfulEntry p) (λ (e : Entry). InRange p e.id) (λ e h. h.id_in_range) es l)
 
-  logged_in_range : (ds : List (List Entry)) → All (LawfulDecision p) ds → All (InRange p) (log_ids ds)
+  logged_in_range : (ds : List (List Entry)) → AllByRecursion (LawfulDecision p) ds → AllByRecursion (InRange p) (log_ids ds)
   logged_in_range [] l = tt
   logged_in_range (d ∷ ds) l = All-append (InRange p) (ids_of d) (log_ids ds) (in_range d l.0.entries.each) (logged_in_range ds l.1)
 
   -- each decision has an entry at least
-  decisions_few : (ds : List (List Entry)) → All (LawfulDecision p) ds → length ds ≤ length (log_ids ds)
+  decisions_few : (ds : List (List Entry)) → AllByRecursion (LawfulDecision p) ds → length ds ≤ length (log_ids ds)
   decisions_few [] l = omega arith
   decisions_few (d ∷ ds) l =
       let rest = decisions_few ds l.1 in
@@ -46,14 +46,14 @@ module _ (p : Plan) where
       omega (arith, length-append (ids_of d) (log_ids ds), length-map d (λ (e : Entry). e.id))
 
   -- lawful entries beside lawful decisions, no id twice, are no more than a table has room for
-  room_beside : (es : List Entry) (ds : List (List Entry)) → All (LawfulEntry p) es → All (LawfulDecision p) ds → Once [] (ids_of es ++ log_ids ds) → length (log_ids ds) + length es ≤ room
+  room_beside : (es : List Entry) (ds : List (List Entry)) → AllByRecursion (LawfulEntry p) es → AllByRecursion (LawfulDecision p) ds → Once [] (ids_of es ++ log_ids ds) → length (log_ids ds) + length es ≤ room
   room_beside es ds l m o =
       let r = space.room p (ids_of es ++ log_ids ds) (All-append (InRange p) (ids_of es) (log_ids ds) (in_range es l) (logged_in_range ds m)) o in
       let most = p.most in
       omega (arith, length-append (ids_of es) (log_ids ds), length-map es (λ (e : Entry). e.id))
 
 -- the id of a whole entry is a byte
-pub ids_bytes : (es : List Entry) → All Whole es → All (λ (e : Entry). e.id < 256) es
+pub ids_bytes : (es : List Entry) → AllByRecursion Whole es → AllByRecursion (λ (e : Entry). e.id < 256) es
 ids_bytes es w = All-weaker Whole (λ (e : Entry). e.id < 256) (λ e h. h.id_byte) es w
 
 -- a table whose array is whole has room for one more where it holds fewer than that

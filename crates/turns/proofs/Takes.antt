@@ -27,7 +27,7 @@ use Rattle.records.specs.declared.OpenTurn.{OpenTurn}
 use Rattle.records.specs.declared.BoxRecord.{BoxRecord}
 use Rattle.records.specs.Records.{box_of, turn_of, tables_fit, KeepsRules}
 use Rattle.history.specs.Histories.{History}
-use Rattle.std.specs.List.{ContainsAt as Has, AllByRecursion as All}
+use Rattle.std.specs.List.{ContainsAt as Has, AllByRecursion}
 use Rattle.ring.specs.Calls.{JudgedRow}
 use Rattle.turns.specs.Frames.{FrameLaws}
 use Rattle.turns.proofs.Endings.{judged}
@@ -62,7 +62,7 @@ module _ (p : Plan) (i : ℕ) (b : Box) (k : Keeps p i b) (bytes : List ℕ) whe
           ap (passed (opened p b t)) one ∙ ap (λ (z : Box). passed z turn) (sym after)
 
       makes : (t : Token) → token t ≡ c → Lawful p c → answer p b c ≡ Ok outcome.Opened → (turn : Turn) → (box_after p b c).turn ≡ Some turn →
-          (sent : List Entry) → All (Has sent) b.unordered → (H : History Entry) → Logged H b → ComesFrom p sent H b t (passed (box_after p b c) turn)
+          (sent : List Entry) → AllByRecursion (Has sent) b.unordered → (H : History Entry) → Logged H b → ComesFrom p sent H b t (passed (box_after p b c) turn)
       makes t e law opens turn is_open sent all H logged =
           let opens' : answer p b (token t) ≡ Ok outcome.Opened = subst (λ z. answer p b z ≡ Ok outcome.Opened) (sym e) opens in
           let open' : (box_after p b (token t)).turn ≡ Some turn = subst (λ z. (box_after p b z).turn ≡ Some turn) (sym e) is_open in

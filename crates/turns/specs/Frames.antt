@@ -1,6 +1,6 @@
 -- What a started box makes of a frame's bytes.
 use Rattle.std.specs.Prelude.{◌≡◌, ℕ, false, List, Some, Ok, Err, Result}
-use Rattle.std.specs.List.{ContainsAt as Has, AllByRecursion as All}
+use Rattle.std.specs.List.{ContainsAt as Has, AllByRecursion}
 use Rattle.frames.specs.declared.plan.Plan.{Plan}
 use Rattle.frames.specs.declared.Entry.{Entry}
 use Rattle.frames.specs.Contents.{Token, Content, has}
@@ -58,4 +58,4 @@ pub record FrameLaws (p : Plan) (b : Box) (bytes : List ℕ) (r : Result Outcome
   pub were : (c : Content) → read_as p bytes ≡ Ok c → (e : Entry) → Has b'.unordered e → Offered p b c e × (has e.id (log_ids b'.log) ≡ false)
   pub are : (c : Content) → read_as p bytes ≡ Ok c → (e : Entry) → Offered p b c e → has e.id (log_ids b'.log) ≡ false → Has b'.unordered e
   pub makes : (t : Token) → read_as p bytes ≡ Ok (token t) → r ≡ Ok outcome.Opened → (turn : Turn) → b'.turn ≡ Some turn →
-      (sent : List Entry) → All (Has sent) b.unordered → (H : History Entry) → Logged H b → ComesFrom p sent H b t (passed b' turn)
+      (sent : List Entry) → AllByRecursion (Has sent) b.unordered → (H : History Entry) → Logged H b → ComesFrom p sent H b t (passed b' turn)

@@ -1,6 +1,6 @@
 //! How a record changes: an order kept, a lesson learned, a turn opened.
 ghost use Rattle.std.specs.Prelude.{◌≡◌, ◌+◌, ◌<◌, ◌≤◌, true, [], ◌∷◌, ◌++◌, length, None, Ok, ◌==◌, nat_le};
-ghost use Rattle.std.specs.List.{AllByRecursion as All};
+ghost use Rattle.std.specs.List.{AllByRecursion};
 ghost use Rattle.boxes.specs.declared.Outcome.TheVariants as outcome;
 ghost use Rattle.boxes.specs.Boxes.{log_ids};
 ghost use Rattle.boxes.specs.Turns.{holding, logging, opened, counted, short, opened_log, opened_proposal, refilled, left};
@@ -69,7 +69,7 @@ fn with_entry(mut table: Entries, entry: Entry) -> Entries
 /// Takes over a log; entries that reach it leave the unordered ones.
 fn settle(row: &mut BoxRecord, log: &Log)
     requires tables { tables_fit row.old ≡ true }
-    requires entries { All Whole (held row.old.unordered) }
+    requires entries { AllByRecursion Whole (held row.old.unordered) }
     requires whole { adds_up log.now ≡ true }
     ensures meaning { box_of row.new ≡ logging (box_of row.old) (log_of log.now) (box_of row.old).turn }
     ensures tables { tables_fit row.new ≡ true }
@@ -81,7 +81,7 @@ fn settle(row: &mut BoxRecord, log: &Log)
 /// Entries of a log leave the unordered ones.
 fn leave_logged(unordered: &mut Entries, log: &Log)
     requires fits { nat_le unordered.old.count room ≡ true }
-    requires entries { All Whole (held unordered.old) }
+    requires entries { AllByRecursion Whole (held unordered.old) }
     requires whole { adds_up log.now ≡ true }
     ensures meaning { held unordered.new ≡ left (log_of log.now) (held unordered.old) }
     ensures fits { nat_le unordered.new.count room ≡ true }

@@ -1,6 +1,6 @@
 -- Reading the bytes of decisions that are at hand.
 use Rattle.std.proofs.Common.{◌≡◌, ℕ, suc, ◌+◌, ◌-◌, ◌<◌, ◌≤◌, List, ◌∷◌, ◌++◌, length, get_or, take, drop, Ok, Err, sym, ap, ◌∙◌, subst, arith, take-add}
-use Rattle.std.specs.List.{flat_map, AllByRecursion as All}
+use Rattle.std.specs.List.{flat_map, AllByRecursion}
 use Rattle.std.proofs.lemmas.List.{append_assoc, drop_more, drop-drop}
 use Rattle.std.proofs.ByRecursion.{All-append}
 use Rattle.std.proofs.lemmas.Bool.{cond-true, cond-false, le-ltb, eq-eqb, ne_eqb}
@@ -67,5 +67,5 @@ module _ (p : Plan) (cs : List ℕ) (es : List Entry) (j first at : ℕ) (left m
       decisions_as p (length cs - j) (ahead at cs es j first left met) ≡ decisions_as p (length cs - (j + 1)) (ahead n cs es (j + 1) (first + c) left seen)
   goes_on nz n seen q = by_entries nz ∙ ap (λ z. and_then z (decisions_as p (length cs - (j + 1)))) q
 
-  pub whole_more : All Whole (take first es) → All Whole d → All Whole (take (first + c) es)
-  whole_more a w = subst (All Whole) (sym (take-add first c es ∙ ap (λ z. take first es ++ z) d_is)) (All-append Whole (take first es) d a w)
+  pub whole_more : AllByRecursion Whole (take first es) → AllByRecursion Whole d → AllByRecursion Whole (take (first + c) es)
+  whole_more a w = subst (AllByRecursion Whole) (sym (take-add first c es ∙ ap (λ z. take first es ++ z) d_is)) (All-append Whole (take first es) d a w)

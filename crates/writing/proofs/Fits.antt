@@ -1,6 +1,6 @@
 -- A token at hand that reads back fits a frame's buffer.
 use Rattle.std.proofs.Common.{◌≡◌, ℕ, ◌+◌, ◌*◌, ◌<◌, ◌≤◌, List, [], ◌∷◌, ◌++◌, length, take, drop, set, Ok, sum, sym, ap, arith, length-drop, length-take}
-use Rattle.std.specs.List.{flat_map, AllByRecursion as All}
+use Rattle.std.specs.List.{flat_map, AllByRecursion}
 use lib.Seq.{paste}
 use Rattle.std.proofs.lemmas.List.{length-append, take_all}
 use Rattle.std.proofs.ByRecursion.{All-append, All-take, All-drop}
@@ -17,14 +17,14 @@ use Rattle.writing.specs.Parted.{a_token}
 use Rattle.writing.specs.Checked.{Shaped}
 use Rattle.writing.proofs.Splits.{parted_count}
 
-parted_bytes : (cs : List ℕ) (es : List Entry) → Bytes cs → All Whole es → Bytes (flat_map decision_bytes (parted cs es))
+parted_bytes : (cs : List ℕ) (es : List Entry) → Bytes cs → AllByRecursion Whole es → Bytes (flat_map decision_bytes (parted cs es))
 parted_bytes [] es b w = tt
 parted_bytes (c ∷ cs) es b w =
     let d = take c es in
     let n : length d < 256 = let h = b.0 in simp length-take (omega arith) in
     All-append (λ x. x < 256) (decision_bytes d) (flat_map decision_bytes (parted cs (drop c es))) (n, entries_bytes d (All-take Whole c es w)) (parted_bytes cs (drop c es) b.1 (All-drop Whole c es w))
 
-parted_length : (cs : List ℕ) (es : List Entry) → All Whole es → sum cs ≡ length es → length (flat_map decision_bytes (parted cs es)) ≡ length cs + 9 * length es
+parted_length : (cs : List ℕ) (es : List Entry) → AllByRecursion Whole es → sum cs ≡ length es → length (flat_map decision_bytes (parted cs es)) ≡ length cs + 9 * length es
 parted_length [] es w q = let n : length es ≡ 0 = sym q in omega arith
 parted_length (c ∷ cs) es w q =
     let d = take c es in
@@ -37,7 +37,7 @@ parted_length (c ∷ cs) es w q =
     omega arith
 
 module _ (p : Plan) (sender stamp votes : ℕ) (proposal : List Entry) (lengths : List ℕ) (entries : List Entry)
-    (hs : sender < 256) (hv : votes < 256) (bs : Bytes lengths) (w : All Whole proposal) (v : All Whole entries) (s : Shaped (length proposal) lengths (length entries)) where
+    (hs : sender < 256) (hv : votes < 256) (bs : Bytes lengths) (w : AllByRecursion Whole proposal) (v : AllByRecursion Whole entries) (s : Shaped (length proposal) lengths (length entries)) where
   abbrev t : Token
   t = a_token sender stamp votes proposal lengths entries
 

@@ -1,6 +1,6 @@
 -- Reading a token's lists, put together from the walks over them.
 use Rattle.std.proofs.Common.{◌≡◌, ℕ, ◌^◌, ◌<◌, Bool, List, [], ◌∷◌, ◌++◌, length, drop, Ok, Err, Result, sym, ap, ◌∙◌}
-use Rattle.std.specs.List.{flat_map, AllByRecursion as All}
+use Rattle.std.specs.List.{flat_map, AllByRecursion}
 use Rattle.std.proofs.ByRecursion.{All-take, All-drop}
 use Rattle.frames.specs.declared.plan.Plan.{Plan}
 use Rattle.frames.specs.declared.Entry.{Entry}
@@ -14,7 +14,7 @@ use Rattle.writing.specs.Checked.{Checked, Ended, Listed}
 use Rattle.writing.specs.Parted.{a_token}
 use Rattle.writing.proofs.Splits.{parted_count}
 
-pub whole_parts : (cs : List ℕ) (es : List Entry) → All Whole es → All (All Whole) (parted cs es)
+pub whole_parts : (cs : List ℕ) (es : List Entry) → AllByRecursion Whole es → AllByRecursion (AllByRecursion Whole) (parted cs es)
 whole_parts [] es w = tt
 whole_parts (c ∷ cs) es w = (All-take Whole c es w, whole_parts cs (drop c es) (All-drop Whole c es w))
 
@@ -42,15 +42,15 @@ module _ (p : Plan) (sender stamp votes : ℕ) (proposal : List Entry) (lengths 
     lists_fail e r = ap (λ z. and_then z (ended (token (token_in (token_bytes p t))))) (on ∙ r)
 
     pub lists_pass : (m : ℕ) (after : List ℕ) → decisions_as p (length lengths) (decided n met) ≡ Ok (record { at = m; bytes = []; met = after }) →
-        stamp < 2 ^ 32 → All Whole proposal → All Whole entries → lists_as p (token_bytes p t) ≡ Ok (token t)
+        stamp < 2 ^ 32 → AllByRecursion Whole proposal → AllByRecursion Whole entries → lists_as p (token_bytes p t) ≡ Ok (token t)
     lists_pass m after r h w v =
         through _ (ended (token (token_in (token_bytes p t)))) _ (on ∙ r) ∙ ap (λ z. Ok (token z)) (token-in p t h w (whole_parts lengths entries v))
 
-    pub lists_end : (r : Result ℕ FrameFault) (table : List Bool) → Checked (decisions_as p (length lengths) (decided n met)) [] r table → Ended r (λ _. All Whole entries) →
-        stamp < 2 ^ 32 → All Whole proposal → Listed (lists_as p (token_bytes p t)) (token t) r
+    pub lists_end : (r : Result ℕ FrameFault) (table : List Bool) → Checked (decisions_as p (length lengths) (decided n met)) [] r table → Ended r (λ _. AllByRecursion Whole entries) →
+        stamp < 2 ^ 32 → AllByRecursion Whole proposal → Listed (lists_as p (token_bytes p t)) (token t) r
     lists_end (Ok m) table c w h v = lists_pass m c.0 c.1 h v w
     lists_end (Err e) table c w h v = lists_fail e c
 
-pub both_whole : (proposal entries : List Entry) (r : Result ℕ FrameFault) → All Whole proposal → Ended r (λ _. All Whole entries) → Ended r (λ _. All Whole proposal × All Whole entries)
+pub both_whole : (proposal entries : List Entry) (r : Result ℕ FrameFault) → AllByRecursion Whole proposal → Ended r (λ _. AllByRecursion Whole entries) → Ended r (λ _. AllByRecursion Whole proposal × AllByRecursion Whole entries)
 both_whole proposal entries (Ok m) w v = (w, v)
 both_whole proposal entries (Err e) w v = tt

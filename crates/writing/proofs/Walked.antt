@@ -1,6 +1,6 @@
 -- Reading the bytes of entries that are at hand.
 use Rattle.std.proofs.Common.{◌≡◌, ℕ, suc, ◌+◌, ◌-◌, ◌<◌, ◌≤◌, true, false, ◌||◌, leb, List, ◌∷◌, ◌++◌, length, get_or, take, drop, sym, ap, ◌∙◌, subst, arith, length-append}
-use Rattle.std.specs.List.{flat_map, AllByRecursion as All}
+use Rattle.std.specs.List.{flat_map, AllByRecursion}
 use Rattle.std.proofs.lemmas.List.{append_assoc, drop_at, take_more, take_all}
 use Rattle.std.proofs.ByRecursion.{All-push}
 use Rattle.std.proofs.lemmas.Bool.{cond-true, cond-false, le-ltb}
@@ -41,8 +41,8 @@ module _ (p : Plan) (es : List Entry) (i last at : ℕ) (e : Entry) (left met : 
       opened ∙ cond-false _ _ _ (le-ltb (length entry) 1 (omega arith)) ∙ cond-false _ _ _ r ∙ cond-false _ _ _ t ∙ cond-false _ _ _ (le-ltb (length entry) 9 (omega arith))
       ∙ ap (λ z. entries_as p (length es - (i + 1)) e.id (record { at = at + 9; bytes = z; met = e.id ∷ met })) d
 
-pub all_more : (es : List Entry) (i : ℕ) (d : Entry) → All Whole (take i es) → Whole (get_or es i d) → i < length es → All Whole (take (i + 1) es)
-all_more es i d a w h = subst (All Whole) (sym (take_more es i d h)) (All-push Whole (take i es) (get_or es i d) a w)
+pub all_more : (es : List Entry) (i : ℕ) (d : Entry) → AllByRecursion Whole (take i es) → Whole (get_or es i d) → i < length es → AllByRecursion Whole (take (i + 1) es)
+all_more es i d a w h = subst (AllByRecursion Whole) (sym (take_more es i d h)) (All-push Whole (take i es) (get_or es i d) a w)
 
-pub all_of : (es : List Entry) (i : ℕ) → All Whole (take i es) → length es ≤ i → All Whole es
-all_of es i a h = subst (All Whole) (take_all i es h) a
+pub all_of : (es : List Entry) (i : ℕ) → AllByRecursion Whole (take i es) → length es ≤ i → AllByRecursion Whole es
+all_of es i a h = subst (AllByRecursion Whole) (take_all i es h) a

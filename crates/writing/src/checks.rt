@@ -1,5 +1,5 @@
 ghost use Rattle.std.specs.Prelude.{◌≡◌, ℕ, ◌+◌, ◌*◌, ◌^◌, ◌<◌, ◌≤◌, List, ◌++◌, length, Ok, sum};
-ghost use Rattle.std.specs.List.{flat_map, AllByRecursion as All};
+ghost use Rattle.std.specs.List.{flat_map, AllByRecursion};
 ghost use Rattle.frames.specs.Contents.{Whole, LawfulToken, entry_bytes, decision_bytes, token_bytes, bytes_of, parted};
 ghost use Rattle.frames.specs.Contents.Content.{order, token};
 ghost use Rattle.frames.specs.Reading.{entries_as, decisions_as, lists_as, read_as};
@@ -13,7 +13,7 @@ use reading::{bad_decided, bad_proposed, bad_round, bad_votes, out_of_range};
 
 /// Called for what its contract says: a slice of bytes holds bytes.
 fn holds_bytes(part: &[u8]) -> bool
-    ensures { All (λ b. b < 256) part.now }
+    ensures { AllByRecursion (λ b. b < 256) part.now }
 {
     !part.is_empty()
 }
@@ -66,7 +66,7 @@ pub(crate) fn check_entries(
 ) -> Result<usize, FrameFault>
     requires { from ≤ 2 ^ 32 }
     ensures near { Ended result (λ n. n ≤ from + 2295) }
-    ensures whole { Ended result (λ _. All Whole entries.now) }
+    ensures whole { Ended result (λ _. AllByRecursion Whole entries.now) }
     ensures checked { (left met : List ℕ) → Marks seen.old met → Checked (entries_as plan.now (length entries.now) 0 (record { at = from; bytes = flat_map entry_bytes entries.now ++ left; met = met })) left result seen.new }
 {
     let mut at = from;
@@ -101,7 +101,7 @@ pub(crate) fn check_decisions(
     seen: &mut [bool; 256],
 ) -> Result<usize, FrameFault>
     requires { (sum lengths.now ≡ length entries.now) × ((length lengths.now ≤ 255) × (from ≤ 2 ^ 16)) }
-    ensures whole { Ended result (λ _. All Whole entries.now) }
+    ensures whole { Ended result (λ _. AllByRecursion Whole entries.now) }
     ensures checked { (left met : List ℕ) → Marks seen.old met → Checked (decisions_as plan.now (length lengths.now) (record { at = from; bytes = flat_map decision_bytes (parted lengths.now entries.now) ++ left; met = met })) left result seen.new }
 {
     let mut at = from;
@@ -129,7 +129,7 @@ fn check_lists(
     entries: &[Entry],
 ) -> Result<usize, FrameFault>
     requires { (sum lengths.now ≡ length entries.now) × (length lengths.now ≤ 255) }
-    ensures whole { Ended result (λ _. All Whole proposal.now × All Whole entries.now) }
+    ensures whole { Ended result (λ _. AllByRecursion Whole proposal.now × AllByRecursion Whole entries.now) }
     ensures listed { (sender stamp votes : ℕ) → stamp < 2 ^ 32 → Listed (lists_as plan.now (token_bytes plan.now (a_token sender stamp votes proposal.now lengths.now entries.now))) (token (a_token sender stamp votes proposal.now lengths.now entries.now)) result }
 {
     let mut seen = [false; 256];

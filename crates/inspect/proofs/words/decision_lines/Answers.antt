@@ -1,4 +1,4 @@
-use Rattle.std.specs.List.{AllByRecursion as All, slice_get}
+use Rattle.std.specs.List.{AllByRecursion, slice_get}
 use Rattle.std.proofs.Common.{◌+◌, ◌≤◌, ◌++◌, length, string_bytes, sym, ap, ◌∙◌, arith}
 use Rattle.std.proofs.lemmas.List.{take_all}
 use Rattle.frames.specs.Contents.{Whole}
@@ -13,7 +13,7 @@ loop-k-preserved c =
       | in-Some+in_ok-push_decision w ↦ λ ds whole q.
           let k = c.loop-k.k in
           let (d, here, bytes) = decision_held (slice_get ds k) w.in-Some.part.now (w.in-Some.ensures.decisions ds whole q) in
-          let place = place_of (All Whole) ds k d whole here in
+          let place = place_of (AllByRecursion Whole) ds k d whole here in
           let within = place.1 in
           ap string_bytes w.all-is ∙ w.in_ok-push_decision.ensures d place.0 bytes
           ∙ ap (λ z. z ++ entry_lines (numbered (k + 1)) d) (c.loop-k.invariant ds whole q) ∙ decision_told ds k d (omega arith) here
