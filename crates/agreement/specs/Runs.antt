@@ -114,7 +114,7 @@ module _ {R : Type 0} (machine : Machine R) (s : State R) where
   abbrev pub Refused : {X : Type 0} → Result X ArrayFault → State R → Type 0
   Refused r t = (r ≡ Err fault.Plan) × (t ≡ s)
 
-  -- Each of the seven calls by this plan is refused so, and in no other way.
+  -- Whatever each of the seven calls by this plan answers, it is refused so.
   pub record Refuses (q : Plan) : Type 0 where
     pub sends : (i : ℕ) (body : List ℕ) (r : Result (ℕ × ℕ) ArrayFault) (t : State R) → Sends q machine s i body r t → Refused r t
     pub hands : (i place : ℕ) (r : Result Answer ArrayFault) (t : State R) → Hands q machine s i place r t → Refused r t

@@ -1,15 +1,7 @@
-/// The right to pass the token of one round. It cannot be let go: it is passed or forfeited.
+/// The right to pass the token of one round. It is not `Drop`, so it cannot be let go: it is passed or forfeited.
 pub struct Turn {
     pub(crate) seat: u8,
     pub(crate) round: u32,
-}
-
-impl Drop for Turn {
-    fn drop(self)
-        requires { ⊥ }
-    {
-        let Turn { seat: _, round: _ } = self;
-    }
 }
 
 impl Turn {
