@@ -1,7 +1,8 @@
 use machines::{Head, Machine, run_example, tell_all};
 use std::process::Abort;
 
-/// Mode, rate, mark, counter and declination.
+/// Mode, rate, mark, counter and declination: in a table, whose value may call no function, they
+/// stand for a head.
 type Fields = (u8, i8, i32, i32, i32);
 
 /// What a row is about, the head before, the body, and the reading after if it is done.
@@ -23,16 +24,6 @@ fn head((mode, rate, mark, counter, declination): Fields) -> Head {
     }
 }
 
-fn fields(head: Head) -> Fields {
-    (
-        head.mode,
-        head.rate,
-        head.mark,
-        head.counter,
-        head.declination,
-    )
-}
-
 /// Tells the head of each row its body.
 fn told(rt: &impl Abort, rows: &[Row]) {
     for (name, before, body, after) in rows {
@@ -40,8 +31,8 @@ fn told(rt: &impl Abort, rows: &[Row]) {
         let done = machine.tell(body);
         assert_eq!(rt; done, after.is_some(), "{}", *name);
         assert_eq!(rt;
-            fields(machine.shown()),
-            after.unwrap_or(*before),
+            machine.shown(),
+            head(after.unwrap_or(*before)),
             "{}",
             *name
         );
@@ -460,12 +451,12 @@ const WRONG: [Fields; 19] = [
 fn out_of_range(rt: HostRuntime) {
     for wrong in WRONG {
         let mut idle = head(wrong);
-        assert_eq!(rt; fields(idle.shown()), FRESH);
+        assert_eq!(rt; idle.shown(), head(FRESH));
         assert!(rt; !idle.tell(&[4, 0, 0, 0, 0, 0, 0, 0]));
         assert!(rt; !idle.tell(&[5, 0, 0, 0, 0, 0, 0, 0]));
-        assert_eq!(rt; fields(idle), wrong);
+        assert_eq!(rt; idle, head(wrong));
         assert!(rt; idle.tell(&[1, 0, 0, 0, 0x64, 0xff, 0xff, 0xce]));
-        assert_eq!(rt; fields(idle), (1, 0, 100, 0, -50));
+        assert_eq!(rt; idle, head((1, 0, 100, 0, -50)));
     }
 }
 
@@ -484,9 +475,9 @@ const RIGHT: [Fields; 7] = [
 fn in_range(rt: HostRuntime) {
     for right in RIGHT {
         let mut machine = head(right);
-        assert_eq!(rt; fields(machine.shown()), right);
+        assert_eq!(rt; machine.shown(), head(right));
         machine.clear();
-        assert_eq!(rt; fields(machine), FRESH);
+        assert_eq!(rt; machine, head(FRESH));
     }
 }
 
@@ -500,18 +491,18 @@ fn whole_list(rt: HostRuntime) {
         [3, 0, 0, 0, 1, 0, 0, 0],
     ];
     assert_eq!(rt;
-        fields(Head::after(&bodies)),
-        (2, 100, 3_000_000, 1_000_000, 0)
+        Head::after(&bodies),
+        head((2, 100, 3_000_000, 1_000_000, 0))
     );
     let mut machine = head(STOPPED);
     tell_all(&mut machine, &bodies[2..]);
-    assert_eq!(rt; fields(machine.shown()), (2, 100, 1_050, 1_000_100, -20));
+    assert_eq!(rt; machine.shown(), head((2, 100, 1_050, 1_000_100, -20)));
 }
 
 #[test]
 fn limit(rt: HostRuntime) {
     let (first, first_done, second, second_done) = run_example();
     assert!(rt; first_done && !second_done);
-    assert_eq!(rt; fields(first), (2, 100, 3_000_000, 1_000_000, 0));
-    assert_eq!(rt; fields(second), (2, 100, 3_000_001, 0, 0));
+    assert_eq!(rt; first, head((2, 100, 3_000_000, 1_000_000, 0)));
+    assert_eq!(rt; second, head((2, 100, 3_000_001, 0, 0)));
 }

@@ -1,10 +1,10 @@
 -- What a dome reads, and what an order makes of its reading.
 use Rattle.std.specs.Prelude.{ℕ, Bool, cond, ◌&&◌, List, ℤ, pos, ◌+ℤ◌, is_some, Option, ◌==◌, nat_lt, unsigned_abs}
+use Rattle.std.specs.Bool.{then_some}
 use Rattle.std.specs.Int.{int_rem_euclid}
 use Rattle.std.specs.Option.{unwrap_or}
 use Rattle.machines.specs.declared.domes.Dome.{Dome}
-use Rattle.machines.specs.declared.orders.Order.{Order}
-use Rattle.machines.specs.Orders.{order_in, signed24, no_rate, no_second, within, only_if}
+use Rattle.machines.specs.Orders.{Order, order_in, signed24, no_rate, no_second, within}
 
 -- the azimuth, and 0, as a fresh dome has it, for one that is out of range
 abbrev pub dome_reading : Dome → ℕ
@@ -17,7 +17,7 @@ turned_by azimuth by = unsigned_abs (int_rem_euclid (pos azimuth +ℤ by) (pos 3
 -- 11 turn: what follows, or nothing if it is not done
 abbrev pub after_turn : ℕ → Order → Option ℕ
 after_turn r o =
-    only_if (o.kind == 0x11 && no_rate o && within 36_000 (signed24 o.first) && no_second o)
+    then_some (o.kind == 0x11 && no_rate o && within 36_000 (signed24 o.first) && no_second o)
     (turned_by r (signed24 o.first))
 
 abbrev pub dome_done : ℕ → List ℕ → Bool

@@ -1,9 +1,12 @@
--- What a mount's head reads, and what each kind of order makes of its reading.
-use Rattle.std.specs.Prelude.{ℕ, Bool, cond, not, ◌&&◌, ◌||◌, List, ℤ, pos, ◌+ℤ◌, ◌*ℤ◌, is_some, None, Option, ◌==◌, nat_le}
-use Rattle.std.specs.Option.{unwrap_or}
-use Rattle.machines.specs.declared.orders.Order.{Order}
+-- What a mount's head reads, and what each order makes of its reading.
+use Rattle.std.specs.Prelude.{ℕ, Bool, cond, not, ◌&&◌, ◌||◌, List, ℤ, pos, ◌+ℤ◌, ◌*ℤ◌, is_some, Option, ◌==◌, nat_le}
+use Rattle.std.specs.Bool.{then_some}
+use Rattle.std.specs.Option.{unwrap_or, option_and_then}
 use Rattle.machines.specs.declared.heads.Head.{Head}
-use Rattle.machines.specs.Orders.{order_in, signed8, signed24, no_rate, no_first, no_second, within, is_zero, only_if}
+use Rattle.machines.specs.declared.heads.order.HeadOrder.{HeadOrder}
+use Rattle.machines.specs.declared.heads.order.HeadOrder.TheVariants.{Slew, Track, Run, Stop, Park}
+use Rattle.machines.specs.Orders.{Order, order_in, within, is_zero}
+use Rattle.machines.specs.HeadOrders.{head_order}
 
 -- parked, with zeros
 abbrev pub head_fresh : Head
@@ -35,47 +38,50 @@ may_stand h = nat_le h.mode 2 && within 100 h.rate && may_point h && (not (parke
 abbrev pub head_reading : Head → Head
 head_reading h = cond (may_stand h) h head_fresh
 
--- 01 slew: right ascension and declination are set, and the rate is kept
-abbrev pub after_slew : Head → Order → Option Head
-after_slew r o =
-    only_if (no_rate o && within 4_000_000 (signed24 o.first) && within 2_000_000 (signed24 o.second))
-    (record { mode = 1; rate = r.rate; mark = signed24 o.first; counter = pos 0; declination = signed24 o.second })
+-- slew: right ascension and declination are set, and the rate is kept
+abbrev pub after_slew : Head → ℤ → ℤ → Option Head
+after_slew r ascension declination =
+    then_some (within 4_000_000 ascension && within 2_000_000 declination)
+    (record { mode = 1; rate = r.rate; mark = ascension; counter = pos 0; declination = declination })
 
--- 02 track, when not parked, at a rate that is not 0: the rate is set, and the mark becomes the right ascension
-abbrev pub after_track : Head → Order → Option Head
-after_track r o =
-    only_if (not (parked r) && not (no_rate o) && within 100 (signed8 o.rate) && no_first o && no_second o)
-    (record { mode = 2; rate = signed8 o.rate; mark = right_ascension r; counter = pos 0; declination = r.declination })
+-- track, when not parked: the rate is set, and the mark becomes the right ascension
+abbrev pub after_track : Head → ℤ → Option Head
+after_track r rate =
+    then_some (not (parked r) && within 100 rate)
+    (record { mode = 2; rate = rate; mark = right_ascension r; counter = pos 0; declination = r.declination })
 
 -- the counter grows by the rate at each tick
 abbrev pub moved_by : Head → ℕ → Head
 moved_by r ticks =
     record { mode = r.mode; rate = r.rate; mark = r.mark; counter = r.counter +ℤ r.rate *ℤ pos ticks; declination = r.declination }
 
--- 03 run, while tracking, 1 to 10,000 ticks: if the right ascension stays within its limit
-abbrev pub after_run : Head → Order → Option Head
-after_run r o =
-    only_if (tracking r && no_rate o && nat_le 1 o.first && nat_le o.first 10_000 && no_second o && within 4_000_000 (right_ascension (moved_by r o.first)))
-    (moved_by r o.first)
+-- run, while tracking, 1 to 10,000 ticks: if the right ascension stays within its limit
+abbrev pub after_run : Head → ℕ → Option Head
+after_run r ticks =
+    then_some (tracking r && nat_le 1 ticks && nat_le ticks 10_000 && within 4_000_000 (right_ascension (moved_by r ticks)))
+    (moved_by r ticks)
 
--- 04 stop, while tracking
-abbrev pub after_stop : Head → Order → Option Head
-after_stop r o =
-    only_if (tracking r && no_rate o && no_first o && no_second o)
+-- stop, while tracking
+abbrev pub after_stop : Head → Option Head
+after_stop r =
+    then_some (tracking r)
     (record { mode = 1; rate = r.rate; mark = r.mark; counter = r.counter; declination = r.declination })
 
--- 05 park, when not parked: the fresh reading
-abbrev pub after_park : Head → Order → Option Head
-after_park r o = only_if (not (parked r) && no_rate o && no_first o && no_second o) head_fresh
+-- park, when not parked: the fresh reading
+abbrev pub after_park : Head → Option Head
+after_park r = then_some (not (parked r)) head_fresh
 
 -- what follows an order, or nothing if it is not done
+abbrev pub obeyed : Head → HeadOrder → Option Head
+obeyed r (Slew ascension declination) = after_slew r ascension declination
+obeyed r (Track rate) = after_track r rate
+obeyed r (Run ticks) = after_run r ticks
+obeyed r Stop = after_stop r
+obeyed r Park = after_park r
+
+-- the same of a body taken apart
 abbrev pub head_after : Head → Order → Option Head
-head_after r o =
-    cond (o.kind == 0x01) (after_slew r o)
-    (cond (o.kind == 0x02) (after_track r o)
-    (cond (o.kind == 0x03) (after_run r o)
-    (cond (o.kind == 0x04) (after_stop r o)
-    (cond (o.kind == 0x05) (after_park r o) None))))
+head_after r o = option_and_then (obeyed r) (head_order o)
 
 abbrev pub head_done : Head → List ℕ → Bool
 head_done r body = is_some (head_after r (order_in body))

@@ -1,4 +1,5 @@
 pub mod Orders
+pub mod HeadOrders
 pub mod HeadRules
 pub mod Telling
 pub mod HeadLaws

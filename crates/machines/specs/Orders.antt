@@ -1,6 +1,12 @@
 -- The order that a body of eight bytes holds, and the tests that the rules of the machines are made of.
-use Rattle.std.specs.Prelude.{ℕ, ◌+◌, ◌*◌, Bool, cond, List, ℤ, pos, ◌-ℤ◌, Some, None, Option, ◌==◌, nat_le, nat_lt, slice_index, unsigned_abs}
-use Rattle.machines.specs.declared.orders.Order.{Order}
+use Rattle.std.specs.Prelude.{ℕ, ◌+◌, ◌*◌, Bool, cond, List, ℤ, pos, ◌-ℤ◌, ◌==◌, nat_le, nat_lt, slice_index, unsigned_abs}
+
+-- a body taken apart, its numbers unsigned; each kind says how it reads them
+pub record Order : Type 0 where
+  pub kind : ℕ
+  pub rate : ℕ
+  pub first : ℕ
+  pub second : ℕ
 
 -- three bytes as one number, the highest first
 abbrev pub number24 : ℕ → ℕ → ℕ → ℕ
@@ -39,7 +45,3 @@ within limit z = nat_le (unsigned_abs z) limit
 
 abbrev pub is_zero : ℤ → Bool
 is_zero z = unsigned_abs z == 0
-
--- x if a test holds, else nothing
-abbrev pub only_if : {X : Type 0} → Bool → X → Option X
-only_if test x = cond test (Some x) None

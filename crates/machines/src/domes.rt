@@ -1,19 +1,19 @@
-ghost use Rattle.std.specs.Prelude.{◌≡◌, ℕ, ◌^◌, ◌<◌, ◌≤◌, true, IfSome, unsigned_abs};
+ghost use Rattle.std.specs.Prelude.{◌≡◌, ℕ, ◌<◌, true};
 ghost use Rattle.machines.specs.Orders.{order_in};
 ghost use Rattle.machines.specs.DomeRules.{dome_reading, dome_told, dome_done, after_turn, turned_by, dome_left};
 ghost use Rattle.machines.specs.DomeLaws.{DomeStaysInRange, DomeTurnsAsTold, BackFromZero};
 ghost use Rattle.machines.specs.Telling.{told_all};
 ghost use Rattle.std.proofs.Common.{rules};
 
-use crate::Machine;
-use crate::orders::{Order, signed24, within};
-use crate::telling::tell_all;
+use crate::numbers::signed24;
+use crate::{Machine, telling};
+use std::marker::Model;
 
 /// A dome, by its azimuth: 0 to 35,999 round the circle.
 ///
 /// The field is plain and may hold anything: an azimuth outside the circle reads as 0, that of the
 /// fresh dome, and is told as that.
-#[derive(Clone, Copy)]
+#[derive(Clone, Copy, Debug, PartialEq, Eq)]
 pub struct Dome {
     pub azimuth: u16,
 }
@@ -30,11 +30,7 @@ impl Dome {
         ensures reading { result ≡ dome_reading self.now }
         ensures in_range { result < 36000 }
     {
-        if self.azimuth < CIRCLE {
-            self.azimuth
-        } else {
-            0
-        }
+        Azimuth::from(*self).place
     }
 
     /// What a fresh dome reads once it is told the bodies, in their order.
@@ -42,9 +38,7 @@ impl Dome {
         ensures told { result ≡ told_all dome_told 0 bodies.now }
         ensures in_range { result < 36000 }
     {
-        let mut dome = Dome::FRESH;
-        tell_all(&mut dome, bodies);
-        dome.shown()
+        telling::told(Dome::FRESH, bodies).shown()
     }
 }
 
@@ -68,6 +62,7 @@ impl Machine for Dome {
         *self = Dome::FRESH;
     }
 
+    #[tactic(auto, using(crate::proofs::DomeRange::dome_stays_in_range, crate::proofs::DomeRange::dome_turns_as_told))]
     fn tell(&mut self, body: &[u8; 8]) -> bool
         ensures told { dome_reading self.new ≡ dome_told (dome_reading self.old) body.now }
         ensures done { result ≡ dome_done (dome_reading self.old) body.now }
@@ -75,46 +70,62 @@ impl Machine for Dome {
         ensures range_law { DomeStaysInRange }
         ensures turns_law { DomeTurnsAsTold }
     {
-        let Some(azimuth) = told(self.shown(), body) else {
+        let Some(after) = Azimuth::from(*self).told(body) else {
             return false;
         };
-        self.azimuth = azimuth;
+        self.azimuth = after.place;
         true
     }
 }
 
-/// The azimuth after a body, or nothing if it is not done.
-fn told(azimuth: u16, body: &[u8; 8]) -> Option<u16>
-    requires { azimuth < 36000 }
-    ensures after { result ≡ after_turn azimuth (order_in body.now) }
-    ensures reads { IfSome result (λ a. a < 36000) }
-    ensures range_law { DomeStaysInRange }
-    ensures turns_law { DomeTurnsAsTold }
-{
-    turn(azimuth, Order::read(body))
+/// An azimuth in the circle.
+#[derive(Clone, Copy, Debug, PartialEq, Eq)]
+struct Azimuth {
+    place: u16,
 }
 
-/// The azimuth after an order, or nothing if it is not done.
-fn turn(azimuth: u16, order: Order) -> Option<u16>
-    requires { (azimuth < 36000) × (order.first < 2 ^ 24) }
-    ensures { result ≡ after_turn azimuth order }
-{
-    let by = signed24(order.first);
-    if order.kind != TURN
-        || order.rate != 0
-        || !within(u32::from(CIRCLE), i64::from(by))
-        || order.second != 0
-    {
-        return None;
+impl Model for Azimuth {
+    ghost Value = { ℕ };
+
+    ghost view = { λ a. a.place };
+
+    ghost invariant = { λ a. a.place < 36000 };
+
+    ghost inverse = { λ n. record { place = n } };
+}
+
+impl From<Dome> for Azimuth {
+    ghost from_gives = { λ dome a. a ≡ dome_reading dome };
+
+    fn from(dome: Dome) -> Self {
+        let place = if dome.azimuth < CIRCLE {
+            dome.azimuth
+        } else {
+            0
+        };
+        Azimuth { place }
     }
-    Some(turned_by(azimuth, by))
 }
 
-fn turned_by(azimuth: u16, by: i32) -> u16
-    requires { (azimuth < 36000) × (unsigned_abs by ≤ 36000) }
-    ensures { result ≡ turned_by azimuth by }
-{
-    (i32::from(azimuth) + by).rem_euclid(i32::from(CIRCLE)) as u16
+impl Azimuth {
+    /// The azimuth after a body, or nothing if it is not done.
+    fn told(self, body: &[u8; 8]) -> Option<Azimuth>
+        ensures { result ≡ after_turn self (order_in body.now) }
+    {
+        let [TURN, 0, high, middle, low, 0, 0, 0] = *body else {
+            return None;
+        };
+        let by = signed24(high, middle, low);
+        (by.unsigned_abs() <= u32::from(CIRCLE)).then_some(self.turned(by))
+    }
+
+    fn turned(self, by: i32) -> Azimuth
+        ensures { result ≡ turned_by self by }
+    {
+        Azimuth {
+            place: (i64::from(self.place) + i64::from(by)).rem_euclid(i64::from(CIRCLE)) as u16,
+        }
+    }
 }
 
 /// A fresh dome is told a turn by -1. Answers its azimuth then and whether it was done.

@@ -7,7 +7,7 @@ ghost use Rattle.std.specs.Prelude.{◌≡◌, ℕ, Bool, false, List};
 
 mod domes;
 mod heads;
-mod orders;
+mod numbers;
 mod telling;
 
 pub use domes::{Dome, turn_example};

@@ -1,0 +1,10 @@
+use Rattle.std.proofs.Common.{arith}
+use Rattle.std.proofs.lemmas.Bool.Decides.{nat_tests}
+use Rattle.std.proofs.lemmas.Int.{to_z-of_z}
+use Rattle.machines.proofs.heads.standing.Standing.moved_by.Goals as goal
+
+pub returns : goal.returns
+returns c = grind (arith, nat_tests, to_z-of_z)
+
+pub overflow_add-result : goal.overflow_add-result
+overflow_add-result c = grind (arith, nat_tests, to_z-of_z)
