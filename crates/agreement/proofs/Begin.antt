@@ -1,6 +1,5 @@
 -- Set-up over a fresh link begins with the invariant.
 use Rattle.std.proofs.Common.{◌≡◌, ℕ, zero, suc, ◌+◌, ◌-◌, ◌%◌, ◌<◌, ◌≤◌, Bool, true, false, cond, ◌&&◌, eqb, ltb, leb, List, [], ◌∷◌, map, length, get_or, sym, refl, ap, ◌∙◌, subst, ⊎_elim, mod-eq_of_lt, arith}
-use mathlib.Core.List.Memᴰ
 use Rattle.std.specs.List.{range_with_len, AllByRecursion}
 use Rattle.std.proofs.lemmas.List.FromFn.{length-map-range_with_len, get_or-map-range_with_len}
 use Rattle.std.proofs.ByRecursion.{All-append, All-map}
@@ -13,6 +12,7 @@ use Rattle.frames.specs.Contents.Content.{token}
 use Rattle.history.specs.Tokens.{Token}
 use Rattle.history.specs.Histories.{History, In, begun, empty, flat}
 use Rattle.history.proofs.Growth.{in_begun}
+use Rattle.history.proofs.Listed.{newest, older}
 use Rattle.history.proofs.Orders.{orders_grow}
 use Rattle.boxes.specs.Boxes.{Box}
 use Rattle.boxes.specs.Turns.{started}
@@ -33,12 +33,19 @@ all_flat_map : {X Y : Type 0} (P : X → Type 0) (f : Y → List X) (ys : List Y
 all_flat_map P f [] a = tt
 all_flat_map P f (y ∷ ys) a = All-append P (f y) (flat (map f ys)) a.0 (all_flat_map P f ys a.1)
 
+-- the start has the token of round 0 and that of the dummies
+first_made : In {E = Entry} begun 1 (empty 1)
+first_made = newest ((0, empty 0) ∷ []) 1 (empty 1)
+
+dummies_made : In {E = Entry} begun 0 (empty 0)
+dummies_made = older ((0, empty 0) ∷ []) 1 0 (empty 1) (empty 0) (newest [] 0 (empty 0))
+
 started_sound : (p : Plan) (i : ℕ) → i < p.n → SoundBox p begun [] i (started p i)
 started_sound p i low = record {
   keeps = records-stay.start p i low;
   idle = refl;
   own = own;
-  logged = record { from = 0; source = empty 0; made = Memᴰ.tail (Memᴰ.head refl); earlier = omega arith; same = refl };
+  logged = record { from = 0; source = empty 0; made = dummies_made; earlier = omega arith; same = refl };
   sent_unordered = tt;
 }
   where
@@ -71,12 +78,12 @@ module _ (p : Plan) where
   unfolding Posted
   all_known =
       All-append Posted (to_successors p 0 (bytes_of p (token first_token))) _
-      (All-map Posted (λ k. ((0 + k) % p.n, bytes_of p (token first_token))) (range_with_len 1 (p.f + 1)) (all_counting (λ k. Genuine p [] begun (bytes_of p (token first_token))) 1 (p.f + 1) (λ k l u. genuine p [] begun (token first_token) (frames_read.first p) (Memᴰ.head refl))))
+      (All-map Posted (λ k. ((0 + k) % p.n, bytes_of p (token first_token))) (range_with_len 1 (p.f + 1)) (all_counting (λ k. Genuine p [] begun (bytes_of p (token first_token))) 1 (p.f + 1) (λ k l u. genuine p [] begun (token first_token) (frames_read.first p) first_made)))
       (all_flat_map Posted (λ j. map (λ k. (k, bytes_of p (token (dummy_of j)))) (range_with_len 1 (dummy_reach p j))) (range_with_len 0 p.n)
       (all_counting (λ j. AllByRecursion Posted (map (λ k. (k, bytes_of p (token (dummy_of j)))) (range_with_len 1 (dummy_reach p j)))) 0 p.n (λ j l u.
       All-map Posted (λ k. (k, bytes_of p (token (dummy_of j)))) (range_with_len 1 (dummy_reach p j)) (all_counting (λ k. Genuine p [] begun (bytes_of p (token (dummy_of j)))) 1 (dummy_reach p j) (λ k l' u'.
       let r = reaching p j k l' u' in
-      genuine p [] begun (token (dummy_of j)) (frames_read.dummies p j r.0 r.1) (Memᴰ.tail (Memᴰ.head refl)))))))
+      genuine p [] begun (token (dummy_of j)) (frames_read.dummies p j r.0 r.1) dummies_made)))))
 
 module _ {R : Type 0} (p : Plan) (machine : Machine R) where
   pub start_inv : (s t : State R) (posts : ℕ) → Fresh s.mail → SetUp p machine s posts t → Inv p machine begun [] t

@@ -20,8 +20,7 @@ use Rattle.boxes.specs.Cases.{OrderHandled, TokenHandled}
 use Rattle.boxes.proofs.Answering.{fit}
 use Rattle.agreement.specs.declared.ArrayFault.{ArrayFault}
 use Rattle.agreement.specs.declared.ArrayFault.TheVariants as fault
-use Rattle.agreement.specs.declared.Answer.{Answer}
-use Rattle.agreement.specs.declared.Answer.TheVariants as answer
+use Rattle.agreement.specs.declared.Passed.{Passed}
 use Rattle.agreement.specs.declared.Call.{Call}
 use Rattle.agreement.specs.declared.Call.TheVariants.{Send, Hand, Lose, Repeat, Doubt, Trust, SwitchOff}
 use Rattle.links.specs.Mail.{Mail}
@@ -105,17 +104,8 @@ module _ {R : Type 0} (p : Plan) (machine : Machine R) where
     ]
 
     send_refused : (i : ℕ) (e : ArrayFault) → Uncallable p s i e → SendRefused p machine s i e
-    send_refused i fault.Plan u = u
-    send_refused i fault.Box u = u
-    send_refused i fault.Off u = u
-    send_refused i fault.Place u = absurd u
-    send_refused i fault.Full u = absurd u
     send_refused i fault.Serials u = absurd u
-    send_refused i (fault.Frame q) u = absurd u
-    send_refused i fault.Sender u = absurd u
-    send_refused i fault.Open u = absurd u
-    send_refused i fault.History u = absurd u
-    send_refused i fault.Rounds u = absurd u
+    send_refused i e u = u
 
     can_send : (i : ℕ) (body : List ℕ) → Body body → (r : Result (ℕ × ℕ) ArrayFault) × (t : State R) × Sends p machine s i body r t
     can_send i body eight = elim (callable i) [
@@ -133,18 +123,11 @@ module _ {R : Type 0} (p : Plan) (machine : Machine R) where
     hand_refused i place fault.Plan u = u
     hand_refused i place fault.Box u = u
     hand_refused i place fault.Off u = u
-    hand_refused i place fault.Place u = absurd u
-    hand_refused i place fault.Full u = absurd u
-    hand_refused i place fault.Serials u = absurd u
-    hand_refused i place (fault.Frame q) u = absurd u
-    hand_refused i place fault.Sender u = absurd u
-    hand_refused i place fault.Open u = absurd u
-    hand_refused i place fault.History u = absurd u
-    hand_refused i place fault.Rounds u = absurd u
+    hand_refused i place _ u = absurd u
 
     module _ (i place : ℕ) (w : Waiting p machine s i place) where
       abbrev Goes : Type 0
-      Goes = (r : Result Answer ArrayFault) × (t : State R) × Hands p machine s i place r t
+      Goes = (r : Result (Outcome Passed) ArrayFault) × (t : State R) × Hands p machine s i place r t
 
       abbrev quietly : Box → State R
       quietly b = record { boxes = set s.boxes i b; readings = s.readings; mail = (can_take s.mail i place).0 }
@@ -152,56 +135,39 @@ module _ {R : Type 0} (p : Plan) (machine : Machine R) where
       quiet : (b : Box) → Quiet p machine s i place b (quietly b)
       quiet b = record { boxes = refl; readings = refl; taken = (can_take s.mail i place).1 }
 
-      order_goes : (e : Entry) → Reads p machine s i place (order e) → (r : Result Outcome BoxFault) (b : Box) → OrderHandled (box_at s.boxes i) e r b → Goes
-      order_goes e rd (Ok outcome.Kept) b x = (Ok answer.Kept, quietly b, (w, (order e, rd, (b, x, quiet b))))
-      order_goes e rd (Ok outcome.Known) b x = (Ok answer.Known, quietly b, (w, (order e, rd, (b, x, quiet b))))
+      order_goes : (e : Entry) → Reads p machine s i place (order e) → (r : Result (Outcome (Unit {0})) BoxFault) (b : Box) → OrderHandled (box_at s.boxes i) e r b → Goes
+      order_goes e rd (Ok outcome.Kept) b x = (Ok outcome.Kept, quietly b, (w, (order e, rd, (b, x, quiet b))))
+      order_goes e rd (Ok outcome.Known) b x = (Ok outcome.Known, quietly b, (w, (order e, rd, (b, x, quiet b))))
+      order_goes e rd (Ok _) b x = absurd x
       order_goes e rd (Err refused.Sender) b x = (Err fault.Sender, s, ((w, (order e, rd, (x.0, refl))), refl))
-      order_goes e rd (Ok outcome.Waits) b x = absurd x
-      order_goes e rd (Ok outcome.Stale) b x = absurd x
-      order_goes e rd (Ok (outcome.Learned j)) b x = absurd x
-      order_goes e rd (Ok outcome.Opened) b x = absurd x
-      order_goes e rd (Err refused.Short) b x = absurd x
-      order_goes e rd (Err refused.Plan) b x = absurd x
-      order_goes e rd (Err refused.Off) b x = absurd x
-      order_goes e rd (Err refused.Serials) b x = absurd x
-      order_goes e rd (Err (refused.Frame q)) b x = absurd x
-      order_goes e rd (Err refused.Open) b x = absurd x
-      order_goes e rd (Err refused.History) b x = absurd x
-      order_goes e rd (Err refused.Rounds) b x = absurd x
-      order_goes e rd (Err refused.Turn) b x = absurd x
+      order_goes e rd (Err _) b x = absurd x
 
       abbrev told : Box → List R
       told b = set s.readings i (after machine (get_or s.readings i machine.fresh) (newly (box_at s.boxes i).log b.log))
 
-      token_goes : (u : Token) → Reads p machine s i place (token u) → (r : Result Outcome BoxFault) (b : Box) → TokenHandled p (box_at s.boxes i) u r b → Goes
-      token_goes u rd (Ok outcome.Waits) b x = (Ok answer.Waits, s, (w, (token u, rd, (b, x, refl))))
-      token_goes u rd (Ok outcome.Stale) b x = (Ok answer.Stale, quietly b, (w, (token u, rd, (b, x, quiet b))))
-      token_goes u rd (Ok (outcome.Learned j)) b x = (Ok (answer.Learned j), record { boxes = set s.boxes i b; readings = told b; mail = (can_take s.mail i place).0 }, (w, (token u, rd, (b, x, record { boxes = refl; readings = refl; taken = (can_take s.mail i place).1 }))))
-      token_goes u rd (Ok outcome.Opened) b x =
+      token_goes : (u : Token) → Reads p machine s i place (token u) → (r : Result (Outcome (Unit {0})) BoxFault) (b : Box) → TokenHandled p (box_at s.boxes i) u r b → Goes
+      token_goes u rd (Ok outcome.Waits) b x = (Ok outcome.Waits, s, (w, (token u, rd, (b, x, refl))))
+      token_goes u rd (Ok outcome.Stale) b x = (Ok outcome.Stale, quietly b, (w, (token u, rd, (b, x, quiet b))))
+      token_goes u rd (Ok (outcome.Learned j)) b x = (Ok (outcome.Learned j), record { boxes = set s.boxes i b; readings = told b; mail = (can_take s.mail i place).0 }, (w, (token u, rd, (b, x, record { boxes = refl; readings = refl; taken = (can_take s.mail i place).1 }))))
+      token_goes u rd (Ok (outcome.Opened tt)) b x =
           let c = box_at s.boxes i in
           let turn = opened_turn p c u in
           let m = can_take s.mail i place in
           let q = can_post (to_successors p i (bytes_of p (token (passed b turn)))) m.0 in
-          (Ok (answer.Passed turn.votes (length turn.proposal) (length b.log) q.0), record { boxes = set s.boxes i (passing b); readings = told b; mail = q.1 }, (w, (token u, rd, (b, turn, x, ap (λ (y : Box). y.turn) x.4, refl, refl, refl, record { between = m.0; boxes = refl; readings = refl; taken = m.1; mail = q.2 }))))
+          (Ok (outcome.Opened (record { votes = turn.votes; proposed = length turn.proposal; decisions = length b.log; posts = q.0 })), record { boxes = set s.boxes i (passing b); readings = told b; mail = q.1 }, (w, (token u, rd, (b, turn, x, ap (λ (y : Box). y.turn) x.4, refl, refl, refl, record { between = m.0; boxes = refl; readings = refl; taken = m.1; mail = q.2 }))))
+      token_goes u rd (Ok _) b x = absurd x
       token_goes u rd (Err refused.Sender) b x = (Err fault.Sender, s, ((w, (token u, rd, (x.0, refl))), refl))
       token_goes u rd (Err refused.Open) b x = (Err fault.Open, s, ((w, (token u, rd, (x.0, x.1, refl))), refl))
       token_goes u rd (Err refused.History) b x = (Err fault.History, s, ((w, (token u, rd, (x.0, x.1, x.2, refl))), refl))
       token_goes u rd (Err refused.Rounds) b x = (Err fault.Rounds, s, ((w, (token u, rd, (x.0, x.1, x.2, x.3, refl))), refl))
-      token_goes u rd (Ok outcome.Kept) b x = absurd x
-      token_goes u rd (Ok outcome.Known) b x = absurd x
-      token_goes u rd (Err refused.Short) b x = absurd x
-      token_goes u rd (Err refused.Plan) b x = absurd x
-      token_goes u rd (Err refused.Off) b x = absurd x
-      token_goes u rd (Err refused.Serials) b x = absurd x
-      token_goes u rd (Err (refused.Frame q)) b x = absurd x
-      token_goes u rd (Err refused.Turn) b x = absurd x
+      token_goes u rd (Err _) b x = absurd x
 
       by_reading : (o : Result Content FrameFault) → read_as p (frame_at s.mail i place) ≡ o → Goes
       by_reading (Err q) e = (Err (fault.Frame q), s, ((w, e), refl))
       by_reading (Ok (order x)) e = order_goes x e (handling.answer p (box_at s.boxes i) (order x)) (box_after p (box_at s.boxes i) (order x)) (fit p (box_at s.boxes i) (order x))
       by_reading (Ok (token u)) e = token_goes u e (handling.answer p (box_at s.boxes i) (token u)) (box_after p (box_at s.boxes i) (token u)) (fit p (box_at s.boxes i) (token u))
 
-    can_hand : (i place : ℕ) → (r : Result Answer ArrayFault) × (t : State R) × Hands p machine s i place r t
+    can_hand : (i place : ℕ) → (r : Result (Outcome Passed) ArrayFault) × (t : State R) × Hands p machine s i place r t
     can_hand i place = elim (callable i) [
       | inr e ↦ (Err e.0, s, (hand_refused i place e.0 e.1, refl))
       | inl c ↦ elim (cases_lt place (length (s.mail.waiting i))) [

@@ -1,8 +1,8 @@
 -- What every run keeps: a history of the tokens made, and what boxes, mail and readings owe to it.
-use Rattle.std.proofs.Common.{◌≡◌, ℕ, ◌+◌, ◌-◌, ◌%◌, ◌<◌, ◌≤◌, ◌≢◌, List, [], ◌∷◌, ◌++◌, length, get_or, drop, set, None, Ok, sym, refl, ap, ◌∙◌, subst, inl, inr, ⊎_elim, arith}
-use mathlib.Core.List.Memᴰ
+use Rattle.std.proofs.Common.{◌≡◌, ℕ, ◌+◌, ◌-◌, ◌%◌, ◌<◌, ◌≤◌, ◌≢◌, List, ◌∷◌, length, get_or, drop, set, None, Ok, sym, refl, ap, ◌∙◌, subst, inl, inr, ⊎_elim, arith}
 use Rattle.std.specs.List.{ContainsAt as Has, AllByRecursion}
 use Rattle.std.proofs.lemmas.List.{get_or-set_same, get_or-set_other, length-set, drop_at}
+use Rattle.std.proofs.lemmas.List.Sums.{fold-append}
 use Rattle.std.proofs.ByRecursion.{All-weaker}
 use Rattle.std.proofs.lemmas.Bool.{cases_eq}
 use Rattle.frames.specs.declared.plan.Plan.{Plan}
@@ -14,6 +14,7 @@ use Rattle.frames.specs.Reading.{read_as}
 use Rattle.history.specs.Tokens.{Token, Lawful}
 use Rattle.history.specs.Histories.{History, In, flat, Begins}
 use Rattle.history.specs.Entries.{Put, carried}
+use Rattle.history.proofs.Listed.{older, newest_or}
 use Rattle.history.proofs.Prefix.{begins_flat}
 use Rattle.boxes.specs.Boxes.{Box, Keeps}
 use Rattle.boxes.specs.Laws.{Logged}
@@ -81,15 +82,14 @@ sound_grown p H sent a t i j b e ne k = record {
   keeps = k.keeps;
   idle = k.idle;
   own = own;
-  logged = let l = k.logged in record { from = l.from; source = l.source; made = Memᴰ.tail l.made; earlier = l.earlier; same = l.same };
+  logged = let l = k.logged in record { from = l.from; source = l.source; made = older H (a + 1) l.from t l.source l.made; earlier = l.earlier; same = l.same };
   sent_unordered = k.sent_unordered;
 }
   where
     own : (stamp : ℕ) (u : Token Entry) → In ((a + 1, t) ∷ H) stamp u → 1 ≤ stamp → (stamp - 1) % p.n ≡ j → stamp ≤ b.awaited
-    own stamp u m l q = elim (Memᴰ.cases_cons m) [
+    own stamp u m l q = elim (newest_or H (a + 1) stamp t u m) [
       | inl z ↦
-          let s : stamp ≡ a + 1 = ap (λ (y : ℕ × Token Entry). y.0) z in
-          let d : stamp - 1 ≡ a = omega arith in
+          let d : stamp - 1 ≡ a = omega (arith, z.0) in
           absurd (ne (sym q ∙ ap (λ x. x % p.n) d ∙ e))
       | inr o ↦ k.own stamp u o l q
     ]
@@ -101,10 +101,6 @@ member_up sent sent' H H' up more (token t) m = more t.stamp (carried t) m
 -- a frame known stays known
 pub known_up : (p : Plan) (sent sent' : List Entry) (H H' : History Entry) → ((e : Entry) → Has sent e → Has sent' e) → ((stamp : ℕ) (t : Token Entry) → In H stamp t → In H' stamp t) → (bytes : List ℕ) → Genuine p sent H bytes → Genuine p sent' H' bytes
 known_up p sent sent' H H' up more bytes g = record { contents = g.contents; reads = g.reads; lawful = g.lawful; member = member_up sent sent' H H' up more g.contents g.member }
-
-pub after_append : {R : Type 0} (m : Machine R) (r : R) (xs ys : List Entry) → after m r (xs ++ ys) ≡ after m (after m r xs) ys
-after_append m r [] ys = refl
-after_append m r (x ∷ xs) ys = after_append m (m.told r x.body) xs ys
 
 module _ {R : Type 0} (p : Plan) (machine : Machine R) where
   -- one box, its reading and the mail are changed
@@ -145,4 +141,4 @@ module _ {R : Type 0} (p : Plan) (machine : Machine R) where
   told_more was now r g e =
       let h = begins_flat was now g in
       let d = ap (λ l. drop (length (flat was)) l) h.1 ∙ drop_at (flat was) h.0 (length (flat was)) refl in
-      ap (λ l. after machine r l) d ∙ ap (λ x. after machine x h.0) e ∙ sym (after_append machine machine.fresh (flat was) h.0) ∙ ap (λ l. after machine machine.fresh l) (sym h.1)
+      ap (λ l. after machine r l) d ∙ ap (λ x. after machine x h.0) e ∙ sym (fold-append (λ (r : R) (e : Entry). machine.told r e.body) machine.fresh (flat was) h.0) ∙ ap (λ l. after machine machine.fresh l) (sym h.1)

@@ -53,9 +53,6 @@ module _ {R : Type 0} (p : Plan) (machine : Machine R) where
   repeats_inv H sent s t i place (Ok u) x v = still_inv H sent s t v x.4.boxes x.4.readings (appended_kept (Genuine p sent H) s.mail t.mail i (frame_at s.mail i place) (All-get_or (Genuine p sent H) (s.mail.waiting i) place [] x.1 (v.mail i)) x.5 v.mail)
   repeats_inv H sent s t i place (Err e) x v = subst (Inv p machine H sent) (sym x.1) v
 
-  has_more : (e : Entry) (sent : List Entry) (x : Entry) → Has sent x → Has (e ∷ sent) x
-  has_more e sent x h = has_append_right (e ∷ []) sent x h
-
   -- a send
   pub sent_inv : (H : History Entry) (sent : List Entry) (s t : State R) (i : ℕ) (body : List ℕ) (id posts : ℕ) → Sent p machine s i body id posts t → Inv p machine H sent s → Inv p machine H (next_entry (box_at s.boxes i) body ∷ sent) t
   sent_inv H sent s t i body id posts x v =
@@ -80,7 +77,7 @@ module _ {R : Type 0} (p : Plan) (machine : Machine R) where
       low = x.may.there.below
 
       up : (y : Entry) → Has sent y → Has more y
-      up y h = has_more e sent y h
+      up = has_append_right (e ∷ []) sent
 
       sb : SoundBox p H sent i b
       sb = v.boxes i low

@@ -3,11 +3,12 @@ use Rattle.std.proofs.Common.{ℕ, Bool, true, false, List, [], ◌∷◌, ◌++
 use Rattle.frames.specs.declared.plan.Plan.{Plan}
 use Rattle.frames.specs.declared.Entry.{Entry}
 use Rattle.history.specs.Histories.{History, begun}
+use Rattle.boxes.specs.declared.Outcome.{Outcome}
 use Rattle.boxes.specs.Boxes.{Box}
 use Rattle.boxes.specs.Turns.{doubting, off, next_entry}
 use Rattle.boxes.proofs.Staying.{keeps_doubting, keeps_off}
 use Rattle.agreement.specs.declared.ArrayFault.{ArrayFault}
-use Rattle.agreement.specs.declared.Answer.{Answer}
+use Rattle.agreement.specs.declared.Passed.{Passed}
 use Rattle.agreement.specs.declared.Call.{Call}
 use Rattle.agreement.specs.declared.Call.TheVariants.{Send, Hand, Lose, Repeat, Doubt, Trust, SwitchOff}
 use Rattle.agreement.specs.Arrays.{Machine, State, box_at, Sets, Sends, Hands, Loses, Repeats, Doubts, Trusts, Switches}
@@ -54,7 +55,7 @@ module _ {R : Type 0} (p : Plan) (machine : Machine R) where
   pub sends_go_on : (s t : State R) (i : ℕ) (body : List ℕ) (r : Result (ℕ × ℕ) ArrayFault) → Sends p machine s i body r t → GoesOn p machine s (Send i body) (noted r (next_entry (box_at s.boxes i) body)) t
   sends_go_on s t i body r x = λ calls sent run. reached (sends t i body r run x)
 
-  pub hands_go_on : (s t : State R) (i place : ℕ) (r : Result Answer ArrayFault) → Hands p machine s i place r t → GoesOn p machine s (Hand i place) (λ l. l) t
+  pub hands_go_on : (s t : State R) (i place : ℕ) (r : Result (Outcome Passed) ArrayFault) → Hands p machine s i place r t → GoesOn p machine s (Hand i place) (λ l. l) t
   hands_go_on s t i place r x = λ calls sent run. reached (hands t i place r run x)
 
   pub loses_go_on : (s t : State R) (i place : ℕ) (r : Result (Unit {0}) ArrayFault) → Loses p machine s i place r t → GoesOn p machine s (Lose i place) (λ l. l) t

@@ -1,6 +1,6 @@
 -- An array of boxes: what each call may do to the boxes, the machines' readings and the mail.
-use Rattle.std.specs.Prelude.{◌≡◌, ℕ, ◌+◌, ◌%◌, ◌<◌, ◌≤◌, true, false, not, ◌⊎◌, List, [], ◌∷◌, ◌++◌, map, length, drop, Some, None, Ok, Err, filter, Result, ◌==◌, slice_index_or, slice_set}
-use Rattle.std.specs.List.{range_with_len, AllByRecursion}
+use Rattle.std.specs.Prelude.{◌≡◌, ℕ, ◌+◌, ◌%◌, ◌<◌, ◌≤◌, true, false, not, ◌⊎◌, List, [], ◌++◌, map, length, drop, Some, None, Ok, Err, filter, Result, ◌==◌, slice_index_or, slice_set}
+use Rattle.std.specs.List.{fold, range_with_len, AllByRecursion}
 use Rattle.frames.specs.declared.FrameFault.{FrameFault}
 use Rattle.frames.specs.declared.Cause.TheVariants.{Length}
 use Rattle.frames.specs.declared.plan.Plan.{Plan}
@@ -20,8 +20,7 @@ use Rattle.boxes.specs.Calls.{first_token, dummy_of}
 use Rattle.boxes.specs.Cases.{Handled}
 use Rattle.agreement.specs.declared.ArrayFault.{ArrayFault}
 use Rattle.agreement.specs.declared.ArrayFault.TheVariants as fault
-use Rattle.agreement.specs.declared.Answer.{Answer}
-use Rattle.agreement.specs.declared.Answer.TheVariants as answer
+use Rattle.agreement.specs.declared.Passed.{Passed}
 use Rattle.links.specs.Mail.{Mail}
 use Rattle.links.specs.Calls.{Appended, Taken}
 use Rattle.agreement.specs.Mail.{Posts}
@@ -65,8 +64,7 @@ newly was now = drop (length (flat was)) (flat now)
 
 -- The reading after entries are told, in order.
 abbrev pub after : {R : Type 0} → Machine R → R → List Entry → R
-after m r [] = r
-after m r (e ∷ es) = after m (m.told r e.body) es
+after {R} m r es = fold (λ (reading : R) (e : Entry). m.told reading e.body) r es
 
 -- The tables have the plan's size.
 pub record Fits {R : Type 0} (p : Plan) (s : State R) : Type 0 where
@@ -88,19 +86,12 @@ pub record Callable {R : Type 0} (p : Plan) (s : State R) (i : ℕ) : Type 0 whe
   pub there : There p s i
   pub is_on : (box_at s.boxes i).on ≡ true
 
--- Rows 2 to 4, the topmost first: what refuses any call of a box that must be on.
+-- Rows 2 to 4, the topmost first: all that refuses every call of a box that must be on.
 abbrev pub Uncallable : {R : Type 0} → Plan → State R → ℕ → ArrayFault → Type 0
 Uncallable p s i fault.Plan = Table p s → ⊥
 Uncallable p s i fault.Box = Table p s × (p.n ≤ i)
 Uncallable p s i fault.Off = There p s i × ((box_at s.boxes i).on ≡ false)
-Uncallable p s i fault.Place = ⊥
-Uncallable p s i fault.Full = ⊥
-Uncallable p s i fault.Serials = ⊥
-Uncallable p s i (fault.Frame q) = ⊥
-Uncallable p s i fault.Sender = ⊥
-Uncallable p s i fault.Open = ⊥
-Uncallable p s i fault.History = ⊥
-Uncallable p s i fault.Rounds = ⊥
+Uncallable p s i _ = ⊥
 
 -- A body is eight bytes.
 pub record Body (body : List ℕ) : Type 0 where
@@ -129,16 +120,7 @@ module _ {R : Type 0} (p : Plan) (machine : Machine R) where
   abbrev pub Sets : State R → Result ℕ ArrayFault → State R → Type 0
   Sets s (Ok posts) t = SetUp s posts t
   Sets s (Err fault.Plan) t = (Fits p s → ⊥) × (t ≡ s)
-  Sets s (Err fault.Box) t = ⊥
-  Sets s (Err fault.Off) t = ⊥
-  Sets s (Err fault.Place) t = ⊥
-  Sets s (Err fault.Full) t = ⊥
-  Sets s (Err fault.Serials) t = ⊥
-  Sets s (Err (fault.Frame q)) t = ⊥
-  Sets s (Err fault.Sender) t = ⊥
-  Sets s (Err fault.Open) t = ⊥
-  Sets s (Err fault.History) t = ⊥
-  Sets s (Err fault.Rounds) t = ⊥
+  Sets s (Err _) t = ⊥
 
   -- A send takes the next serial of box i, and posts the order to the other boxes.
   pub record Sent (s : State R) (i : ℕ) (body : List ℕ) (id posts : ℕ) (t : State R) : Type 0 where
@@ -150,19 +132,10 @@ module _ {R : Type 0} (p : Plan) (machine : Machine R) where
     pub readings : t.readings ≡ s.readings
     pub mail : Posts (to_others p i (bytes_of p (order (next_entry (box_at s.boxes i) body)))) s.mail posts t.mail
 
-  -- What refuses a send, the topmost row first.
+  -- A send is refused as every such call is, and then by row 7, after serial 15.
   abbrev pub SendRefused : State R → ℕ → ArrayFault → Type 0
-  SendRefused s i fault.Plan = Uncallable p s i fault.Plan
-  SendRefused s i fault.Box = Uncallable p s i fault.Box
-  SendRefused s i fault.Off = Uncallable p s i fault.Off
   SendRefused s i fault.Serials = Callable p s i × (15 ≤ (box_at s.boxes i).last)
-  SendRefused s i fault.Place = ⊥
-  SendRefused s i fault.Full = ⊥
-  SendRefused s i (fault.Frame q) = ⊥
-  SendRefused s i fault.Sender = ⊥
-  SendRefused s i fault.Open = ⊥
-  SendRefused s i fault.History = ⊥
-  SendRefused s i fault.Rounds = ⊥
+  SendRefused s i e = Uncallable p s i e
 
   -- A send answers the order's id and how many posts were made; a refusal changes nothing.
   abbrev pub Sends : State R → ℕ → List ℕ → Result (ℕ × ℕ) ArrayFault → State R → Type 0
@@ -182,19 +155,15 @@ module _ {R : Type 0} (p : Plan) (machine : Machine R) where
   abbrev pub BoxRefused : State R → ℕ → ℕ → BoxFault → Type 0
   BoxRefused s i place e = Waiting s i place × ((c : Content) × Reads s i place c × Handled p (box_at s.boxes i) c (Err e) (box_at s.boxes i))
 
-  -- What refuses a hand, the topmost row first.
+  -- A hand is refused as every such call is, and then by rows 5 and 9 to 13, the topmost first.
   abbrev pub HandRefused : State R → ℕ → ℕ → ArrayFault → Type 0
-  HandRefused s i place fault.Plan = Uncallable p s i fault.Plan
-  HandRefused s i place fault.Box = Uncallable p s i fault.Box
-  HandRefused s i place fault.Off = Uncallable p s i fault.Off
   HandRefused s i place fault.Place = Callable p s i × (length (s.mail.waiting i) ≤ place)
   HandRefused s i place (fault.Frame q) = Waiting s i place × (read_as p (frame_at s.mail i place) ≡ Err q)
   HandRefused s i place fault.Sender = BoxRefused s i place refused.Sender
   HandRefused s i place fault.Open = BoxRefused s i place refused.Open
   HandRefused s i place fault.History = BoxRefused s i place refused.History
   HandRefused s i place fault.Rounds = BoxRefused s i place refused.Rounds
-  HandRefused s i place fault.Full = ⊥
-  HandRefused s i place fault.Serials = ⊥
+  HandRefused s i place e = Uncallable p s i e
 
   -- The frame is removed, box i becomes b and no machine is told.
   pub record Quiet (s : State R) (i place : ℕ) (b : Box) (t : State R) : Type 0 where
@@ -221,36 +190,29 @@ module _ {R : Type 0} (p : Plan) (machine : Machine R) where
     pub mail : Posts (to_successors p i (bytes_of p (token (passed b turn)))) between posts t.mail
 
   -- What the box did, with the box that came of it.
-  abbrev pub Did : State R → ℕ → Content → Outcome → Box → Type 0
+  abbrev pub Did : State R → ℕ → Content → Outcome (Unit {0}) → Box → Type 0
   Did s i c o b = Handled p (box_at s.boxes i) c (Ok o) b
 
   -- What a hand did with the contents of the frame, by its answer.
-  abbrev pub Answered : State R → ℕ → ℕ → Content → Answer → State R → Type 0
-  Answered s i place c answer.Kept t = (b : Box) × Did s i c outcome.Kept b × Quiet s i place b t
-  Answered s i place c answer.Known t = (b : Box) × Did s i c outcome.Known b × Quiet s i place b t
-  Answered s i place c answer.Waits t = (b : Box) × Did s i c outcome.Waits b × (t ≡ s)
-  Answered s i place c answer.Stale t = (b : Box) × Did s i c outcome.Stale b × Quiet s i place b t
-  Answered s i place c (answer.Learned k) t = (b : Box) × Did s i c (outcome.Learned k) b × Learning s i place b t
-  Answered s i place c (answer.Passed votes proposed decisions posts) t = (b : Box) × (turn : Turn) × Did s i c outcome.Opened b × (b.turn ≡ Some turn) × (votes ≡ turn.votes) × (proposed ≡ length turn.proposal) × (decisions ≡ length b.log) × Passing s i place b turn posts t
+  abbrev pub Answered : State R → ℕ → ℕ → Content → Outcome Passed → State R → Type 0
+  Answered s i place c outcome.Kept t = (b : Box) × Did s i c outcome.Kept b × Quiet s i place b t
+  Answered s i place c outcome.Known t = (b : Box) × Did s i c outcome.Known b × Quiet s i place b t
+  Answered s i place c outcome.Waits t = (b : Box) × Did s i c outcome.Waits b × (t ≡ s)
+  Answered s i place c outcome.Stale t = (b : Box) × Did s i c outcome.Stale b × Quiet s i place b t
+  Answered s i place c (outcome.Learned k) t = (b : Box) × Did s i c (outcome.Learned k) b × Learning s i place b t
+  Answered s i place c (outcome.Opened told) t = (b : Box) × (turn : Turn) × Did s i c (outcome.Opened tt) b × (b.turn ≡ Some turn) × (told.votes ≡ turn.votes) × (told.proposed ≡ length turn.proposal) × (told.decisions ≡ length b.log) × Passing s i place b turn told.posts t
 
   -- A hand, by its answer; a refusal changes nothing.
-  abbrev pub Hands : State R → ℕ → ℕ → Result Answer ArrayFault → State R → Type 0
+  abbrev pub Hands : State R → ℕ → ℕ → Result (Outcome Passed) ArrayFault → State R → Type 0
   Hands s i place (Ok a) t = Waiting s i place × ((c : Content) × Reads s i place c × Answered s i place c a t)
   Hands s i place (Err e) t = HandRefused s i place e × (t ≡ s)
 
-  -- Rows 2, 3 and 5: what refuses a call on a waiting frame, box on or off.
+  -- Rows 2, 3 and 5, the topmost first: all that refuses every call on a waiting frame, box on or off.
   abbrev pub Nowhere : State R → ℕ → ℕ → ArrayFault → Type 0
   Nowhere s i place fault.Plan = Table p s → ⊥
   Nowhere s i place fault.Box = Table p s × (p.n ≤ i)
   Nowhere s i place fault.Place = There p s i × (length (s.mail.waiting i) ≤ place)
-  Nowhere s i place fault.Off = ⊥
-  Nowhere s i place fault.Full = ⊥
-  Nowhere s i place fault.Serials = ⊥
-  Nowhere s i place (fault.Frame q) = ⊥
-  Nowhere s i place fault.Sender = ⊥
-  Nowhere s i place fault.Open = ⊥
-  Nowhere s i place fault.History = ⊥
-  Nowhere s i place fault.Rounds = ⊥
+  Nowhere s i place _ = ⊥
 
   -- The boxes and the machines stay.
   pub record Still (s t : State R) : Type 0 where
@@ -270,19 +232,11 @@ module _ {R : Type 0} (p : Plan) (machine : Machine R) where
   abbrev pub Missized : List ℕ → FrameFault → Type 0
   Missized frame q = ((length frame ≡ 0) × (q ≡ record { place = 0; cause = Length })) ⊎ ((1060 < length frame) × (q ≡ record { place = 1060; cause = Length }))
 
-  -- What refuses a repeat, the topmost row first.
+  -- A repeat is refused as every such call is, and then by rows 6 and 9.
   abbrev pub RepeatRefused : State R → ℕ → ℕ → ArrayFault → Type 0
-  RepeatRefused s i place fault.Plan = Nowhere s i place fault.Plan
-  RepeatRefused s i place fault.Box = Nowhere s i place fault.Box
-  RepeatRefused s i place fault.Place = Nowhere s i place fault.Place
   RepeatRefused s i place fault.Full = There p s i × (place < length (s.mail.waiting i)) × (s.mail.full i ≡ true)
   RepeatRefused s i place (fault.Frame q) = There p s i × (place < length (s.mail.waiting i)) × (s.mail.full i ≡ false) × Missized (frame_at s.mail i place) q
-  RepeatRefused s i place fault.Off = ⊥
-  RepeatRefused s i place fault.Serials = ⊥
-  RepeatRefused s i place fault.Sender = ⊥
-  RepeatRefused s i place fault.Open = ⊥
-  RepeatRefused s i place fault.History = ⊥
-  RepeatRefused s i place fault.Rounds = ⊥
+  RepeatRefused s i place e = Nowhere s i place e
 
   -- A waiting frame is posted again to its box.
   abbrev pub Repeats : State R → ℕ → ℕ → Result (Unit {0}) ArrayFault → State R → Type 0

@@ -5,11 +5,12 @@ use Rattle.frames.specs.declared.plan.Plan.{Plan}
 use Rattle.frames.specs.declared.Entry.{Entry}
 use Rattle.frames.specs.Contents.{Once}
 use Rattle.history.specs.Histories.{Agree, flat}
+use Rattle.boxes.specs.declared.Outcome.{Outcome}
 use Rattle.boxes.specs.Boxes.{Box, log_ids}
 use Rattle.boxes.specs.Turns.{next_entry}
 use Rattle.agreement.specs.declared.ArrayFault.{ArrayFault}
 use Rattle.agreement.specs.declared.ArrayFault.TheVariants as fault
-use Rattle.agreement.specs.declared.Answer.{Answer}
+use Rattle.agreement.specs.declared.Passed.{Passed}
 use Rattle.agreement.specs.declared.Call.{Call}
 use Rattle.agreement.specs.declared.Call.TheVariants.{Send, Hand, Lose, Repeat, Doubt, Trust, SwitchOff}
 use Rattle.links.specs.Mail.{Fresh}
@@ -34,7 +35,7 @@ module _ {R : Type 0} (p : Plan) (machine : Machine R) where
   pub data Run : List Call → List Entry → State R → Type 0 where
     start : {s : State R} (t : State R) (posts : ℕ) → Fresh s.mail → SetUp p machine s posts t → Run [] [] t
     sends : {calls : List Call} {sent : List Entry} {s : State R} (t : State R) (i : ℕ) (body : List ℕ) (r : Result (ℕ × ℕ) ArrayFault) → Run calls sent s → Sends p machine s i body r t → Run (calls ++ Send i body ∷ []) (noted r (next_entry (box_at s.boxes i) body) sent) t
-    hands : {calls : List Call} {sent : List Entry} {s : State R} (t : State R) (i place : ℕ) (r : Result Answer ArrayFault) → Run calls sent s → Hands p machine s i place r t → Run (calls ++ Hand i place ∷ []) sent t
+    hands : {calls : List Call} {sent : List Entry} {s : State R} (t : State R) (i place : ℕ) (r : Result (Outcome Passed) ArrayFault) → Run calls sent s → Hands p machine s i place r t → Run (calls ++ Hand i place ∷ []) sent t
     loses : {calls : List Call} {sent : List Entry} {s : State R} (t : State R) (i place : ℕ) (r : Result (Unit {0}) ArrayFault) → Run calls sent s → Loses p machine s i place r t → Run (calls ++ Lose i place ∷ []) sent t
     repeats : {calls : List Call} {sent : List Entry} {s : State R} (t : State R) (i place : ℕ) (r : Result (Unit {0}) ArrayFault) → Run calls sent s → Repeats p machine s i place r t → Run (calls ++ Repeat i place ∷ []) sent t
     doubts : {calls : List Call} {sent : List Entry} {s : State R} (t : State R) (i : ℕ) (r : Result (Unit {0}) ArrayFault) → Run calls sent s → Doubts p machine s i r t → Run (calls ++ Doubt i ∷ []) sent t
@@ -76,12 +77,7 @@ RunsAreUnsplit R = (p : Plan) (machine : Machine R) (calls : List Call) (sent : 
 -- A body has 8 bytes.
 abbrev pub SoundCall : Call → Type 0
 SoundCall (Send i body) = Body body
-SoundCall (Hand i place) = Unit {0}
-SoundCall (Lose i place) = Unit {0}
-SoundCall (Repeat i place) = Unit {0}
-SoundCall (Doubt i) = Unit {0}
-SoundCall (Trust i) = Unit {0}
-SoundCall (SwitchOff i) = Unit {0}
+SoundCall _ = Unit {0}
 
 -- No run is stuck: each call has an answer that goes on with it.
 abbrev pub RunsGoOn : Type 0 → Type 0
@@ -89,17 +85,12 @@ RunsGoOn R = (p : Plan) (machine : Machine R) (calls : List Call) (sent : List E
 
 -- What a hand may be refused for in a run: never a plan, a frame, an open turn or a history.
 abbrev pub MayRefuse : ArrayFault → Type 0
-MayRefuse fault.Plan = ⊥
 MayRefuse fault.Box = Unit {0}
 MayRefuse fault.Off = Unit {0}
 MayRefuse fault.Place = Unit {0}
-MayRefuse fault.Full = ⊥
-MayRefuse fault.Serials = ⊥
-MayRefuse (fault.Frame q) = ⊥
 MayRefuse fault.Sender = Unit {0}
-MayRefuse fault.Open = ⊥
-MayRefuse fault.History = ⊥
 MayRefuse fault.Rounds = Unit {0}
+MayRefuse _ = ⊥
 
 -- In a run no hand is refused for anything else.
 abbrev pub RunsAreSmooth : Type 0 → Type 0
@@ -117,7 +108,7 @@ module _ {R : Type 0} (machine : Machine R) (s : State R) where
   -- Whatever each of the seven calls by this plan answers, it is refused so.
   pub record Refuses (q : Plan) : Type 0 where
     pub sends : (i : ℕ) (body : List ℕ) (r : Result (ℕ × ℕ) ArrayFault) (t : State R) → Sends q machine s i body r t → Refused r t
-    pub hands : (i place : ℕ) (r : Result Answer ArrayFault) (t : State R) → Hands q machine s i place r t → Refused r t
+    pub hands : (i place : ℕ) (r : Result (Outcome Passed) ArrayFault) (t : State R) → Hands q machine s i place r t → Refused r t
     pub loses : (i place : ℕ) (r : Result (Unit {0}) ArrayFault) (t : State R) → Loses q machine s i place r t → Refused r t
     pub repeats : (i place : ℕ) (r : Result (Unit {0}) ArrayFault) (t : State R) → Repeats q machine s i place r t → Refused r t
     pub doubts : (i : ℕ) (r : Result (Unit {0}) ArrayFault) (t : State R) → Doubts q machine s i r t → Refused r t

@@ -1,14 +1,16 @@
 #![tactic(auto)]
 
 ghost use Rattle.std.specs.Prelude.{◌≡◌};
+ghost use Rattle.agreement.specs.declared.ArrayFault.TheVariants as fault;
 ghost use Rattle.agreement.specs.Rows.{array_row};
 ghost use Rattle.agreement.specs.Worked.{Worked, PostsCounted};
 ghost use Rattle.agreement.specs.Runs.{RunsAreUnsplit, RunsGoOn, RunsAreSmooth, OtherPlansRefused};
 
-use frames::FrameFault;
+use boxes::Outcome;
+use frames::{FrameFault, Refusal};
 
 /// Why a call of an array is refused; nothing is changed.
-#[derive(Clone, Copy)]
+#[derive(Clone, Copy, Debug, PartialEq, Eq)]
 pub enum ArrayFault {
     /// The tables are not of the plan's size, or a record does not keep the rules of its place.
     Plan,
@@ -34,34 +36,46 @@ pub enum ArrayFault {
     Rounds,
 }
 
-/// What a hand answers; a turn is passed with its votes, proposed entries, decisions and posts made.
-#[derive(Clone, Copy)]
-pub enum Answer {
-    Kept,
-    Known,
-    Waits,
-    Stale,
-    Learned(u8),
-    Passed(u8, u8, u8, u8),
+/// What a turn was passed with.
+#[derive(Clone, Copy, Debug, PartialEq, Eq)]
+pub struct Passed {
+    /// The votes for the entries that its token proposes.
+    pub votes: u8,
+    /// How many entries those are.
+    pub proposed: u8,
+    /// How many decisions the token has.
+    pub decisions: u8,
+    /// How many posts of the token were made.
+    pub posts: u8,
 }
 
-/// A call of an array.
-#[derive(Clone, Copy)]
+/// What a hand answers: the box's answer, where a turn that opened is told by what it was passed with.
+pub type Answer = Outcome<Passed>;
+
+/// A call of an array, by the seat of its box and the place of a frame that waits there.
+#[derive(Clone, Copy, Debug, PartialEq, Eq)]
 pub enum Call {
-    Send(u8, [u8; 8]),
-    Hand(u8, u8),
-    Lose(u8, u8),
-    Repeat(u8, u8),
-    Doubt(u8),
-    Trust(u8),
-    SwitchOff(u8),
+    Send { seat: u8, body: [u8; 8] },
+    Hand { seat: u8, place: u8 },
+    Lose { seat: u8, place: u8 },
+    Repeat { seat: u8, place: u8 },
+    Doubt { seat: u8 },
+    Trust { seat: u8 },
+    SwitchOff { seat: u8 },
 }
 
-impl ArrayFault {
-    /// The number of the refusal.
-    pub fn row(&self) -> u8
-        ensures { result ≡ array_row self.now }
-    {
+impl From<FrameFault> for ArrayFault {
+    ghost from_gives = { λ e r. r ≡ fault.Frame e };
+
+    fn from(fault: FrameFault) -> ArrayFault {
+        ArrayFault::Frame(fault)
+    }
+}
+
+impl Refusal for ArrayFault {
+    ghost number = { array_row };
+
+    fn row(&self) -> u8 {
         match *self {
             ArrayFault::Plan => 2,
             ArrayFault::Box => 3,
@@ -79,6 +93,7 @@ impl ArrayFault {
 }
 
 /// Every run of an array, over any link and any machine whose readings are of type R, leads only to unsplit states.
+#[tactic(auto, using(crate::proofs::Theorem::runs_are_unsplit))]
 pub fn runs_are_unsplit<R>()
     ensures { RunsAreUnsplit R }
 {}
@@ -94,6 +109,7 @@ pub fn runs_are_smooth<R>()
 {}
 
 /// In a run each call by another plan than the array's is refused by row 2 and changes nothing.
+#[tactic(auto, using(crate::proofs::Refusals::other_plans_refused))]
 pub fn other_plans_refused<R>()
     ensures { OtherPlansRefused R }
 {}

@@ -1,5 +1,6 @@
 -- The answer as a function fits the cases, and nothing else does.
 use Rattle.std.proofs.Common.{◌≡◌, ℕ, ◌+◌, ◌/◌, ◌%◌, ◌<◌, ◌≤◌, Bool, true, false, not, ◌&&◌, ◌||◌, eqb, ltb, leb, ◌≢◌, ◌⊎◌, List, [], ◌∷◌, length, Some, None, Ok, Err, Decides, Option, Result, sym, refl, ap, ◌∙◌, inl, inr, ⊎_elim, arith}
+use Rattle.std.proofs.lemmas.Option.{none-some}
 use Rattle.std.specs.List.{AllByRecursion}
 use Rattle.std.proofs.lemmas.Bool.Decides.{Decides-eqb, Decides-and, Decides-or, Decides-not, Decides-ltb, Decides-like, not_from_Decides}
 use Rattle.std.proofs.lemmas.Bool.{true≢false, false≢true, leb-true, le-leb, cases_eq}
@@ -70,21 +71,15 @@ decides_opens p b t =
     Decides-or (eqb (gap b t) 1) (b.doubt && (leb 2 (gap b t) && leb (gap b t) (p.f + 1))) (Decides-eqb (gap b t) 1)
     (decides_three b.doubt (leb 2 (gap b t)) (leb (gap b t) (p.f + 1)) (λ e. e, λ e. e) (decides_leb 2 (gap b t)) (decides_leb (gap b t) (p.f + 1)))
 
-pub some≢none : {X : Type 0} (x : X) → Some x ≡ None → ⊥
-some≢none x e = let z : ◌≡◌ {A = ℕ} 0 1 = cc in omega arith
-
 decides_open : (o : Option Turn) → Decides (is_open o) (o ≢ None)
 decides_open None = (λ e. absurd (false≢true e), λ n. absurd (n refl))
-decides_open (Some t) = (λ _. some≢none t, λ _. refl)
+decides_open (Some t) = (λ _. (λ e. none-some t (sym e)), λ _. refl)
 
 closed_is : (o : Option Turn) → is_open o ≡ false → o ≡ None
 closed_is None e = refl
 closed_is (Some t) e = absurd (true≢false e)
 
 -- what holds where a test fails
-unless : {P : Type 0} (r : Bool) → Decides r P → r ≡ false → P → ⊥
-unless r d e = not_from_Decides r d e
-
 pub is_false : {P : Type 0} (r : Bool) → Decides r P → (P → ⊥) → r ≡ false
 is_false true d n = absurd (n (d.0 refl))
 is_false false d n = refl
@@ -114,21 +109,21 @@ module _ (p : Plan) (b : Box) (t : Token) where
   }
 
   fits_by : (ex tn op be ag la mo : Bool) → Tested p b t ex tn op be ag la mo → TokenHandled p b t (by_rows ex tn op be ag la mo (more b t)) (token_after p b t (by_rows ex tn op be ag la mo (more b t)))
-  fits_by false tn op be ag la mo d = (unless false d.dx refl, refl)
+  fits_by false tn op be ag la mo d = (not_from_Decides false d.dx refl, refl)
   fits_by true true op be ag la mo d = (d.dx.0 refl, d.dt.0 refl, refl)
-  fits_by true false false false ag la mo d = ((d.dx.0 refl, d.shut refl), unless false d.dop refl, unless false d.db refl, refl)
-  fits_by true false true be false la mo d = ((d.dx.0 refl, d.shut refl), inl (d.dop.0 refl), unless false d.da refl, refl)
-  fits_by true false false true false la mo d = ((d.dx.0 refl, d.shut refl), inr (d.db.0 refl), unless false d.da refl, refl)
+  fits_by true false false false ag la mo d = ((d.dx.0 refl, d.shut refl), not_from_Decides false d.dop refl, not_from_Decides false d.db refl, refl)
+  fits_by true false true be false la mo d = ((d.dx.0 refl, d.shut refl), inl (d.dop.0 refl), not_from_Decides false d.da refl, refl)
+  fits_by true false false true false la mo d = ((d.dx.0 refl, d.shut refl), inr (d.db.0 refl), not_from_Decides false d.da refl, refl)
   fits_by true false true be true true mo d = ((d.dx.0 refl, d.shut refl), d.dop.0 refl, d.da.0 refl, d.dl.0 refl, refl)
-  fits_by true false true be true false mo d = ((d.dx.0 refl, d.shut refl), d.dop.0 refl, d.da.0 refl, omega (arith, unless false d.dl refl), refl)
+  fits_by true false true be true false mo d = ((d.dx.0 refl, d.shut refl), d.dop.0 refl, d.da.0 refl, omega (arith, not_from_Decides false d.dl refl), refl)
   fits_by true false false true true la true d = ((d.dx.0 refl, d.shut refl), d.db.0 refl, d.da.0 refl, d.dm.0 refl, refl, refl)
-  fits_by true false false true true la false d = ((d.dx.0 refl, d.shut refl), d.db.0 refl, d.da.0 refl, omega (arith, unless false d.dm refl), refl)
+  fits_by true false false true true la false d = ((d.dx.0 refl, d.shut refl), d.db.0 refl, d.da.0 refl, omega (arith, not_from_Decides false d.dm refl), refl)
 
   not_both : Opens p b t → Behind p b t → ⊥
   not_both (inl e) h = omega (arith, p.least)
   not_both (inr x) h = omega (arith, x.2, p.least, p.few)
 
-  alone_by : (ex tn op be ag la mo : Bool) → Tested p b t ex tn op be ag la mo → (r : Result Outcome BoxFault) (b' : Box) → TokenHandled p b t r b' → (r ≡ by_rows ex tn op be ag la mo (more b t)) × (b' ≡ token_after p b t (by_rows ex tn op be ag la mo (more b t)))
+  alone_by : (ex tn op be ag la mo : Bool) → Tested p b t ex tn op be ag la mo → (r : Result (Outcome (Unit {0})) BoxFault) (b' : Box) → TokenHandled p b t r b' → (r ≡ by_rows ex tn op be ag la mo (more b t)) × (b' ≡ token_after p b t (by_rows ex tn op be ag la mo (more b t)))
   alone_by ex tn op be ag la mo d (Err fault.Sender) b' x =
       let e1 : ex ≡ false = is_false ex d.dx x.0 in
       let r : Err fault.Sender ≡ by_rows ex tn op be ag la mo (more b t) = rw e1 in
@@ -160,13 +155,13 @@ module _ (p : Plan) (b : Box) (t : Token) where
       let e5 : la ≡ true = d.dl.1 x.3 in
       let r : Err fault.Rounds ≡ by_rows ex tn op be ag la mo (more b t) = rw (e1, e2, e3, e4, e5) in
       (r, x.4 ∙ ap (token_after p b t) r)
-  alone_by ex tn op be ag la mo d (Ok outcome.Opened) b' x =
+  alone_by ex tn op be ag la mo d (Ok (outcome.Opened tt)) b' x =
       let e1 : ex ≡ true = d.dx.1 x.0.0 in
       let e2 : tn ≡ false = is_false tn d.dt (λ n. n x.0.1) in
       let e3 : op ≡ true = d.dop.1 x.1 in
       let e4 : ag ≡ true = d.da.1 x.2 in
       let e5 : la ≡ false = is_false la d.dl (λ h. omega (arith, x.3)) in
-      let r : Ok outcome.Opened ≡ by_rows ex tn op be ag la mo (more b t) = rw (e1, e2, e3, e4, e5) in
+      let r : Ok (outcome.Opened tt) ≡ by_rows ex tn op be ag la mo (more b t) = rw (e1, e2, e3, e4, e5) in
       (r, x.4 ∙ ap (token_after p b t) r)
   alone_by ex tn op be ag la mo d (Ok outcome.Stale) b' x =
       let e1 : ex ≡ true = d.dx.1 x.0.0 in
@@ -195,7 +190,7 @@ module _ (p : Plan) (b : Box) (t : Token) where
   alone_by ex tn op be ag la mo d (Err (fault.Frame q)) b' x = absurd x
   alone_by ex tn op be ag la mo d (Err fault.Turn) b' x = absurd x
 
-alone_order : (b : Box) (e : Entry) (us un lo : Bool) → Decides us (Used b e.id) → has e.id (ids_of b.unordered) ≡ un → has e.id (log_ids b.log) ≡ lo → (r : Result Outcome BoxFault) (b' : Box) → OrderHandled b e r b' → (r ≡ order_by us un lo) × (b' ≡ order_after b e (order_by us un lo))
+alone_order : (b : Box) (e : Entry) (us un lo : Bool) → Decides us (Used b e.id) → has e.id (ids_of b.unordered) ≡ un → has e.id (log_ids b.log) ≡ lo → (r : Result (Outcome (Unit {0})) BoxFault) (b' : Box) → OrderHandled b e r b' → (r ≡ order_by us un lo) × (b' ≡ order_after b e (order_by us un lo))
 alone_order b e us un lo d eu el (Err fault.Sender) b' x =
     let e1 : us ≡ false = is_false us d x.0 in
     let r : Err fault.Sender ≡ order_by us un lo = rw e1 in
@@ -214,7 +209,7 @@ alone_order b e us un lo d eu el (Ok outcome.Known) b' x =
 alone_order b e us un lo d eu el (Ok outcome.Waits) b' x = absurd x
 alone_order b e us un lo d eu el (Ok outcome.Stale) b' x = absurd x
 alone_order b e us un lo d eu el (Ok (outcome.Learned j)) b' x = absurd x
-alone_order b e us un lo d eu el (Ok outcome.Opened) b' x = absurd x
+alone_order b e us un lo d eu el (Ok (outcome.Opened tt)) b' x = absurd x
 alone_order b e us un lo d eu el (Err fault.Short) b' x = absurd x
 alone_order b e us un lo d eu el (Err fault.Plan) b' x = absurd x
 alone_order b e us un lo d eu el (Err fault.Off) b' x = absurd x
@@ -229,13 +224,13 @@ pub fit : (p : Plan) (b : Box) (c : Content) → Handled p b c (answer p b c) (b
 fit p b (order e) = go (used b e.id) (has e.id (ids_of b.unordered)) (has e.id (log_ids b.log)) (decides_used b e.id) refl refl
   where
     go : (us un lo : Bool) → Decides us (Used b e.id) → has e.id (ids_of b.unordered) ≡ un → has e.id (log_ids b.log) ≡ lo → OrderHandled b e (order_by us un lo) (order_after b e (order_by us un lo))
-    go false un lo d eu el = (unless false d refl, refl)
+    go false un lo d eu el = (not_from_Decides false d refl, refl)
     go true true lo d eu el = (d.0 refl, inl eu, refl)
     go true false true d eu el = (d.0 refl, inr el, refl)
     go true false false d eu el = (d.0 refl, eu, el, refl)
 fit p b (token t) = fits_by p b t (expected p b t) (is_open b.turn) (would_open p b t) (is_behind p b t) (agrees b.log t.decisions) (ltb 999999 b.awaited) (ltb (length b.log) (length t.decisions)) (tested p b t)
 
-pub alone : (p : Plan) (b : Box) (c : Content) (r : Result Outcome BoxFault) (b' : Box) → Handled p b c r b' → (r ≡ answer p b c) × (b' ≡ box_after p b c)
+pub alone : (p : Plan) (b : Box) (c : Content) (r : Result (Outcome (Unit {0})) BoxFault) (b' : Box) → Handled p b c r b' → (r ≡ answer p b c) × (b' ≡ box_after p b c)
 alone p b (order e) = alone_order b e (used b e.id) (has e.id (ids_of b.unordered)) (has e.id (log_ids b.log)) (decides_used b e.id) refl refl
 alone p b (token t) = alone_by p b t (expected p b t) (is_open b.turn) (would_open p b t) (is_behind p b t) (agrees b.log t.decisions) (ltb 999999 b.awaited) (ltb (length b.log) (length t.decisions)) (tested p b t)
 

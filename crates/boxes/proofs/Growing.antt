@@ -39,13 +39,13 @@ module _ (p : Plan) (b : Box) where
   token_same : (t : Token) (b' : Box) → b' ≡ b → Grown p b (token t) b'
   token_same t b' q = subst (Grown p b (token t)) (sym q) (itself b.log, inl refl)
 
-  by_order : (e : Entry) (r : Result Outcome BoxFault) (b' : Box) → OrderHandled b e r b' → Grown p b (order e) b'
+  by_order : (e : Entry) (r : Result (Outcome (Unit {0})) BoxFault) (b' : Box) → OrderHandled b e r b' → Grown p b (order e) b'
   by_order e (Ok outcome.Kept) b' x = subst (Grown p b (order e)) (sym x.3) (itself b.log, refl)
   by_order e (Ok outcome.Known) b' x = order_same e b' x.2
   by_order e (Ok outcome.Waits) b' x = absurd x
   by_order e (Ok outcome.Stale) b' x = absurd x
   by_order e (Ok (outcome.Learned j)) b' x = absurd x
-  by_order e (Ok outcome.Opened) b' x = absurd x
+  by_order e (Ok (outcome.Opened tt)) b' x = absurd x
   by_order e (Err fault.Short) b' x = absurd x
   by_order e (Err fault.Plan) b' x = absurd x
   by_order e (Err fault.Off) b' x = absurd x
@@ -57,13 +57,13 @@ module _ (p : Plan) (b : Box) where
   by_order e (Err fault.Rounds) b' x = absurd x
   by_order e (Err fault.Turn) b' x = absurd x
 
-  by_token : (t : Token) (r : Result Outcome BoxFault) (b' : Box) → TokenHandled p b t r b' → Grown p b (token t) b'
+  by_token : (t : Token) (r : Result (Outcome (Unit {0})) BoxFault) (b' : Box) → TokenHandled p b t r b' → Grown p b (token t) b'
   by_token t (Ok outcome.Kept) b' x = absurd x
   by_token t (Ok outcome.Known) b' x = absurd x
   by_token t (Ok outcome.Waits) b' x = token_same t b' x.3
   by_token t (Ok outcome.Stale) b' x = token_same t b' x.4
   by_token t (Ok (outcome.Learned j)) b' x = subst (Grown p b (token t)) (sym x.5) (shorter_begins b.log t.decisions (omega (arith, x.3)) x.2, inr (inl refl))
-  by_token t (Ok outcome.Opened) b' x = subst (Grown p b (token t)) (sym x.4) (grows p b t (opened_log p b t) (opened_turn p b t) x.2 (shape p b t), logged_from p b t (opened_log p b t) (opened_turn p b t) (shape p b t))
+  by_token t (Ok (outcome.Opened tt)) b' x = subst (Grown p b (token t)) (sym x.4) (grows p b t (opened_log p b t) (opened_turn p b t) x.2 (shape p b t), logged_from p b t (opened_log p b t) (opened_turn p b t) (shape p b t))
   by_token t (Err fault.Short) b' x = absurd x
   by_token t (Err fault.Plan) b' x = absurd x
   by_token t (Err fault.Off) b' x = absurd x

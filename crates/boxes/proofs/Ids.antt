@@ -1,5 +1,6 @@
 -- Ids of entries: ascending, once, apart; what is left of a list, and what is inserted.
-use Rattle.std.proofs.Common.{◌≡◌, ℕ, ◌+◌, ◌%◌, ◌<◌, ◌≤◌, false, not, eqb, ltb, ◌≢◌, List, [], ◌∷◌, ◌++◌, sym, refl, ap, ◌∙◌, mod-eq_of_lt, arith}
+use Rattle.std.proofs.Common.{◌≡◌, ℕ, ◌+◌, ◌%◌, ◌<◌, ◌≤◌, false, not, eqb, ltb, ◌≢◌, List, [], ◌∷◌, ◌++◌, sym, refl, ap, ◌∙◌, arith}
+use Rattle.std.proofs.Math.Nat.{zero-mod}
 use Rattle.std.specs.List.{AllByRecursion}
 use Rattle.std.proofs.lemmas.List.{flat_map_more}
 use Rattle.std.proofs.ByRecursion.{all_kept_by}
@@ -114,15 +115,12 @@ once_apart xs ys o = fewer_apart xs ys (λ i. let m = (once_fewer [] (xs ++ ys) 
 
 -- a record's lists as a token
 
-zero_mod : (n : ℕ) → 0 < n → 0 % n ≡ 0
-zero_mod n h = mod-eq_of_lt h
-
 there : (p : Plan) (unordered : List Entry) (log : List (List Entry)) → Lists p unordered log → LawfulToken p (listed unordered log)
 there p unordered log l = record {
   sender_fits = omega (arith, p.least);
   stamp_fits = omega arith;
   dummy = λ z. absurd (omega arith);
-  round = λ _. record { in_turn = zero_mod p.n (omega (arith, p.least)); voted = omega arith; votes_fit = p.some; one_vote = λ _. refl };
+  round = λ _. record { in_turn = zero-mod p.n; voted = omega arith; votes_fit = p.some; one_vote = λ _. refl };
   proposal_lawful = l.entries;
   decisions_lawful = l.decisions;
   no_id_twice = once_beside (ids_of unordered) (log_ids log) l.entries.ascend l.apart l.once;

@@ -94,7 +94,7 @@ module _ (p : Plan) (i : ℕ) (b : Box) (k : Keeps p i b) where
     are = λ e o n. ⊎_elim (λ h. subst (λ l. Has l e) (sym q) (left_has b'.log e b.unordered n h)) (λ z. absurd (no_order t e z.0)) o;
   }
 
-  by_order : (e : Entry) (r : Result Outcome BoxFault) (b' : Box) → answer p b (order e) ≡ r → OrderHandled b e r b' → Exact p b (order e) b'
+  by_order : (e : Entry) (r : Result (Outcome (Unit {0})) BoxFault) (b' : Box) → answer p b (order e) ≡ r → OrderHandled b e r b' → Exact p b (order e) b'
   by_order e (Ok outcome.Kept) b' q x = subst (Exact p b (order e)) (sym x.3) (record {
     were = λ y h. elim (has_inserted e y b.unordered h) [
       | inl s ↦ (inr (ap order s, q), subst (λ (z : Entry). has z.id (log_ids b.log) ≡ false) s x.2)
@@ -106,7 +106,7 @@ module _ (p : Plan) (i : ℕ) (b : Box) (k : Keeps p i b) where
   by_order e (Ok outcome.Waits) b' q x = absurd x
   by_order e (Ok outcome.Stale) b' q x = absurd x
   by_order e (Ok (outcome.Learned j)) b' q x = absurd x
-  by_order e (Ok outcome.Opened) b' q x = absurd x
+  by_order e (Ok (outcome.Opened tt)) b' q x = absurd x
   by_order e (Err fault.Short) b' q x = absurd x
   by_order e (Err fault.Plan) b' q x = absurd x
   by_order e (Err fault.Off) b' q x = absurd x
@@ -118,13 +118,13 @@ module _ (p : Plan) (i : ℕ) (b : Box) (k : Keeps p i b) where
   by_order e (Err fault.Rounds) b' q x = absurd x
   by_order e (Err fault.Turn) b' q x = absurd x
 
-  by_token : (t : Token) (r : Result Outcome BoxFault) (b' : Box) → TokenHandled p b t r b' → Exact p b (token t) b'
+  by_token : (t : Token) (r : Result (Outcome (Unit {0})) BoxFault) (b' : Box) → TokenHandled p b t r b' → Exact p b (token t) b'
   by_token t (Ok outcome.Kept) b' x = absurd x
   by_token t (Ok outcome.Known) b' x = absurd x
   by_token t (Ok outcome.Waits) b' x = unchanged (token t) b' (λ y w _. no_order t y w) x.3
   by_token t (Ok outcome.Stale) b' x = unchanged (token t) b' (λ y w _. no_order t y w) x.4
   by_token t (Ok (outcome.Learned j)) b' x = subst (Exact p b (token t)) (sym x.5) (left_exact t (logging b t.decisions None) refl)
-  by_token t (Ok outcome.Opened) b' x = subst (Exact p b (token t)) (sym x.4) (left_exact t (opened p b t) refl)
+  by_token t (Ok (outcome.Opened tt)) b' x = subst (Exact p b (token t)) (sym x.4) (left_exact t (opened p b t) refl)
   by_token t (Err fault.Short) b' x = absurd x
   by_token t (Err fault.Plan) b' x = absurd x
   by_token t (Err fault.Off) b' x = absurd x

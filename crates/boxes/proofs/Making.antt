@@ -23,7 +23,7 @@ use Rattle.boxes.proofs.Shapes.{Shape, shape, renewed, sound}
 use Rattle.boxes.proofs.Shapes.Shape.{is_old, is_keep, is_fresh, is_decide}
 
 -- what is known as a turn opens
-pub opened_when : (p : Plan) (b : Box) (t : Token) → answer p b (token t) ≡ Ok outcome.Opened → TokenHandled p b t (Ok outcome.Opened) (box_after p b (token t))
+pub opened_when : (p : Plan) (b : Box) (t : Token) → answer p b (token t) ≡ Ok (outcome.Opened tt) → TokenHandled p b t (Ok (outcome.Opened tt)) (box_after p b (token t))
 opened_when p b t e = subst (λ r. TokenHandled p b t r (box_after p b (token t))) e (fit p b (token t))
 
 -- a turn opens on a token of one of the f+1 rounds before

@@ -44,3 +44,8 @@ calls (Some f) was becomes n e q = refl
 
 pub refusals_stay : RefusalsStay
 refusals_stay = record { frames = frames; calls = calls; waits = waits; stale = stale; known = known }
+
+-- a call that answers has no fault
+pub unrefused : {A : Type 0} (fault : Option BoxFault) (a : A) → Ok a ≡ refused_or fault a → fault ≡ None
+unrefused None a q = refl
+unrefused (Some e) a q = let z : ◌≡◌ {A = ℕ} 0 1 = cc in absurd (omega arith)

@@ -1,5 +1,6 @@
 -- The turn that opens has one of four shapes; its log and its token are lawful.
 use Rattle.std.proofs.Common.{◌≡◌, ℕ, ◌+◌, ◌-◌, ◌%◌, ◌<◌, ◌≤◌, Bool, true, false, cond, not, ◌&&◌, eqb, ◌≢◌, List, [], ◌∷◌, ◌++◌, length, sym, refl, ap, ◌∙◌, ⊎_elim, append-nil, mod-lt, arith}
+use Rattle.history.proofs.Orders.{some_long}
 use mathlib.Core.List.{cons≢nil}
 use native.Mathlib.Decide.{ℕ_discrete}
 use Rattle.std.specs.List.{AllByRecursion}
@@ -58,10 +59,6 @@ count_true g l e = let h = and_parts (eqb g 1) (not (eqb l 0)) e in (eqb-true g 
 
 count_false : (g l : ℕ) → (eqb g 1 && not (eqb l 0)) ≡ false → l ≢ 0 → g ≢ 1
 count_false g l e ne q = ⊎_elim (λ h. eqb-false g 1 h q) (λ h. ne (eqb-true l 0 (not-false (eqb l 0) h))) (and_cases (eqb g 1) (not (eqb l 0)) e)
-
-some_long : {X : Type 0} (xs : List X) → xs ≢ [] → 0 < length xs
-some_long [] h = absurd (h refl)
-some_long (x ∷ xs) h = omega arith
 
 long_none : {X : Type 0} (x : X) (xs : List X) → length (x ∷ xs) ≢ 0
 long_none x xs = omega arith

@@ -22,12 +22,13 @@ use Rattle.boxes.specs.Calls.{stayed_or, off_fault, send_fault, read_after, pass
 use Rattle.boxes.specs.Cases.{OrderHandled, TokenHandled}
 use Rattle.boxes.specs.Laws.{Stays, RecordsStay}
 use Rattle.boxes.proofs.Ids.{ids_left, apart_left, lawful_left, ids_inserted, lawful_inserted}
-use Rattle.boxes.proofs.Answering.{fit, some≢none}
+use Rattle.std.proofs.lemmas.Option.{none-some}
+use Rattle.boxes.proofs.Answering.{fit}
 use Rattle.boxes.proofs.Shapes.{Fine, fine, fine_decisions, shape, lawful_turn}
 
 -- a closed turn owes no token
 pub closed : (P : Turn → Type 0) (t : Turn) → None ≡ Some t → P t
-closed P t e = absurd (some≢none t (sym e))
+closed P t e = absurd (none-some t e)
 
 module _ (p : Plan) (i : ℕ) (b : Box) (k : Keeps p i b) where
   pub seat_below : b.seat < p.n
@@ -77,13 +78,13 @@ module _ (p : Plan) (i : ℕ) (b : Box) (k : Keeps p i b) where
   same : (b' : Box) → b' ≡ b → Keeps p i b'
   same b' e = subst (Keeps p i) (sym e) k
 
-  by_order : (e : Entry) → LawfulEntry p e → (r : Result Outcome BoxFault) (b' : Box) → OrderHandled b e r b' → Keeps p i b'
+  by_order : (e : Entry) → LawfulEntry p e → (r : Result (Outcome (Unit {0})) BoxFault) (b' : Box) → OrderHandled b e r b' → Keeps p i b'
   by_order e l (Ok outcome.Kept) b' x = subst (Keeps p i) (sym x.3) (keeps_holding e b.last (omega arith) k.serials l x.0 x.1 x.2)
   by_order e l (Ok outcome.Known) b' x = same b' x.2
   by_order e l (Ok outcome.Waits) b' x = absurd x
   by_order e l (Ok outcome.Stale) b' x = absurd x
   by_order e l (Ok (outcome.Learned j)) b' x = absurd x
-  by_order e l (Ok outcome.Opened) b' x = absurd x
+  by_order e l (Ok (outcome.Opened tt)) b' x = absurd x
   by_order e l (Err fault.Short) b' x = absurd x
   by_order e l (Err fault.Plan) b' x = absurd x
   by_order e l (Err fault.Off) b' x = absurd x
@@ -95,13 +96,13 @@ module _ (p : Plan) (i : ℕ) (b : Box) (k : Keeps p i b) where
   by_order e l (Err fault.Rounds) b' x = absurd x
   by_order e l (Err fault.Turn) b' x = absurd x
 
-  by_token : (t : Token) → LawfulToken p t → (r : Result Outcome BoxFault) (b' : Box) → TokenHandled p b t r b' → Keeps p i b'
+  by_token : (t : Token) → LawfulToken p t → (r : Result (Outcome (Unit {0})) BoxFault) (b' : Box) → TokenHandled p b t r b' → Keeps p i b'
   by_token t l (Ok outcome.Kept) b' x = absurd x
   by_token t l (Ok outcome.Known) b' x = absurd x
   by_token t l (Ok outcome.Waits) b' x = same b' x.3
   by_token t l (Ok outcome.Stale) b' x = same b' x.4
   by_token t l (Ok (outcome.Learned j)) b' x = subst (Keeps p i) (sym x.5) (keeps_logging t.decisions None (fine_decisions p i b t k l x.0.0.1) (λ y e. closed (λ z. LawfulToken p (passed (logging b t.decisions None) z)) y e))
-  by_token t l (Ok outcome.Opened) b' x = subst (Keeps p i) (sym x.4) (keeps_opened t l x.0.0.1 x.3)
+  by_token t l (Ok (outcome.Opened tt)) b' x = subst (Keeps p i) (sym x.4) (keeps_opened t l x.0.0.1 x.3)
   by_token t l (Err fault.Short) b' x = absurd x
   by_token t l (Err fault.Plan) b' x = absurd x
   by_token t l (Err fault.Off) b' x = absurd x
@@ -173,9 +174,9 @@ module _ (p : Plan) (i : ℕ) (b : Box) (k : Keeps p i b) where
 
   room_left : (kept on full : Bool) → cond (not kept) (Some fault.Plan) (cond (not on) (Some fault.Off) (cond full (Some fault.Serials) None)) ≡ None → full ≡ false
   room_left true true false e = refl
-  room_left true true true e = absurd (some≢none _ e)
-  room_left true false full e = absurd (some≢none _ e)
-  room_left false on full e = absurd (some≢none _ e)
+  room_left true true true e = absurd (none-some _ (sym e))
+  room_left true false full e = absurd (none-some _ (sym e))
+  room_left false on full e = absurd (none-some _ (sym e))
 
   by_read : (bytes : List ℕ) → AllByRecursion (λ x. x < 256) bytes → (r : Result Content FrameFault) → read_as p bytes ≡ r → Keeps p i (read_after p b r)
   by_read bytes a (Ok c) e = by_contents c (back p bytes c a e).1

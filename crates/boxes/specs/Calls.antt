@@ -44,7 +44,7 @@ abbrev pub send_after : Box → (kept : Bool) → (body : List ℕ) → Box
 send_after b kept body = stayed_or (send_fault b kept) b (sending b body)
 
 -- What a box answers to bytes that were read: row 9 carries the frame's fault whole.
-abbrev pub read_answer : Plan → Box → Result Content FrameFault → Result Outcome BoxFault
+abbrev pub read_answer : Plan → Box → Result Content FrameFault → Result (Outcome (Unit {0})) BoxFault
 read_answer p b (Ok c) = answer p b c
 read_answer p b (Err e) = Err (fault.Frame e)
 
@@ -54,7 +54,7 @@ read_after p b (Ok c) = box_after p b c
 read_after p b (Err e) = b
 
 -- A frame: rows 2, 4 and 9, and then what the box makes of its contents.
-abbrev pub frame_call : Plan → Box → (kept : Bool) → (bytes : List ℕ) → Result Outcome BoxFault
+abbrev pub frame_call : Plan → Box → (kept : Bool) → (bytes : List ℕ) → Result (Outcome (Unit {0})) BoxFault
 frame_call p b kept bytes = cond (not kept) (Err fault.Plan) (cond (not b.on) (Err fault.Off) (read_answer p b (read_as p bytes)))
 
 -- The record after a frame.

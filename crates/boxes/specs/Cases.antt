@@ -31,13 +31,13 @@ abbrev pub Ready : Plan → Box → Token → Type 0
 Ready p b t = Expected p b t × (b.turn ≡ None)
 
 -- An order is kept if its id is neither unordered nor in the log, and else known.
-abbrev pub OrderHandled : Box → Entry → Result Outcome BoxFault → Box → Type 0
+abbrev pub OrderHandled : Box → Entry → Result (Outcome (Unit {0})) BoxFault → Box → Type 0
 OrderHandled b e (Ok outcome.Kept) b' = Used b e.id × (has e.id (ids_of b.unordered) ≡ false) × (has e.id (log_ids b.log) ≡ false) × (b' ≡ holding b e b.last)
 OrderHandled b e (Ok outcome.Known) b' = Used b e.id × ((has e.id (ids_of b.unordered) ≡ true) ⊎ (has e.id (log_ids b.log) ≡ true)) × (b' ≡ b)
 OrderHandled b e (Ok outcome.Waits) b' = ⊥
 OrderHandled b e (Ok outcome.Stale) b' = ⊥
 OrderHandled b e (Ok (outcome.Learned k)) b' = ⊥
-OrderHandled b e (Ok outcome.Opened) b' = ⊥
+OrderHandled b e (Ok (outcome.Opened tt)) b' = ⊥
 OrderHandled b e (Err fault.Short) b' = ⊥
 OrderHandled b e (Err fault.Plan) b' = ⊥
 OrderHandled b e (Err fault.Off) b' = ⊥
@@ -50,13 +50,13 @@ OrderHandled b e (Err fault.Rounds) b' = ⊥
 OrderHandled b e (Err fault.Turn) b' = ⊥
 
 -- A token, the topmost refusal first, and waiting between the open turn and the history.
-abbrev pub TokenHandled : Plan → Box → Token → Result Outcome BoxFault → Box → Type 0
+abbrev pub TokenHandled : Plan → Box → Token → Result (Outcome (Unit {0})) BoxFault → Box → Type 0
 TokenHandled p b t (Ok outcome.Kept) b' = ⊥
 TokenHandled p b t (Ok outcome.Known) b' = ⊥
 TokenHandled p b t (Ok outcome.Waits) b' = Ready p b t × (Opens p b t → ⊥) × (Behind p b t → ⊥) × (b' ≡ b)
 TokenHandled p b t (Ok outcome.Stale) b' = Ready p b t × Behind p b t × Agree b.log t.decisions × (length t.decisions ≤ length b.log) × (b' ≡ b)
 TokenHandled p b t (Ok (outcome.Learned k)) b' = Ready p b t × Behind p b t × Agree b.log t.decisions × (length b.log < length t.decisions) × (k ≡ more b t) × (b' ≡ logging b t.decisions None)
-TokenHandled p b t (Ok outcome.Opened) b' = Ready p b t × Opens p b t × Agree b.log t.decisions × (b.awaited ≤ 999999) × (b' ≡ opened p b t)
+TokenHandled p b t (Ok (outcome.Opened tt)) b' = Ready p b t × Opens p b t × Agree b.log t.decisions × (b.awaited ≤ 999999) × (b' ≡ opened p b t)
 TokenHandled p b t (Err fault.Short) b' = ⊥
 TokenHandled p b t (Err fault.Plan) b' = ⊥
 TokenHandled p b t (Err fault.Off) b' = ⊥
@@ -69,6 +69,6 @@ TokenHandled p b t (Err fault.Rounds) b' = Ready p b t × Opens p b t × Agree b
 TokenHandled p b t (Err fault.Turn) b' = ⊥
 
 -- What a box that is on makes of contents.
-abbrev pub Handled : Plan → Box → Content → Result Outcome BoxFault → Box → Type 0
+abbrev pub Handled : Plan → Box → Content → Result (Outcome (Unit {0})) BoxFault → Box → Type 0
 Handled p b (order e) r b' = OrderHandled b e r b'
 Handled p b (token t) r b' = TokenHandled p b t r b'

@@ -1,5 +1,6 @@
 -- What a box makes of a frame's contents: each test, the answer by the topmost row that fits, and the record after it.
 use Rattle.std.specs.Prelude.{ℕ, ◌+◌, ◌-◌, ◌/◌, ◌%◌, Bool, true, false, cond, not, ◌&&◌, ◌||◌, List, [], ◌∷◌, length, Some, None, Ok, Err, Option, Result, ◌==◌, nat_eq, nat_le, nat_lt}
+use Rattle.std.specs.List.{list_all}
 use Rattle.frames.specs.declared.plan.Plan.{Plan}
 use Rattle.frames.specs.declared.Entry.{Entry}
 use Rattle.frames.specs.Plans.{dummy_reach}
@@ -43,8 +44,7 @@ used b i = not (i / 16 == b.seat) || nat_le (i % 16) b.last
 
 -- That holds of each of these ids.
 abbrev pub all_used : Box → List ℕ → Bool
-all_used b [] = true
-all_used b (i ∷ is) = used b i && all_used b is
+all_used b = list_all (used b)
 
 -- How many boxes ahead of the sender the seat is.
 abbrev pub steps : Plan → (seat sender : ℕ) → ℕ
@@ -79,25 +79,25 @@ abbrev pub more : Box → Token → ℕ
 more b t = length t.decisions - length b.log
 
 -- The answer to a token by its tests: rows 10 and 11, then waiting, then rows 12 and 13, then the turn or what is learned.
-abbrev pub by_rows : (expected busy opens behind agrees late longer : Bool) → (more : ℕ) → Result Outcome BoxFault
+abbrev pub by_rows : (expected busy opens behind agrees late longer : Bool) → (more : ℕ) → Result (Outcome (Unit {0})) BoxFault
 by_rows expected busy opens behind agrees late longer more =
     cond (not expected) (Err fault.Sender)
     (cond busy (Err fault.Open)
     (cond (not (opens || behind)) (Ok outcome.Waits)
     (cond (not agrees) (Err fault.History)
     (cond (opens && late) (Err fault.Rounds)
-    (cond opens (Ok outcome.Opened)
+    (cond opens (Ok (outcome.Opened tt))
     (cond longer (Ok (outcome.Learned more)) (Ok outcome.Stale)))))))
 
 -- What a box answers to a token.
-abbrev pub token_answer : Plan → Box → Token → Result Outcome BoxFault
+abbrev pub token_answer : Plan → Box → Token → Result (Outcome (Unit {0})) BoxFault
 token_answer p b t =
     by_rows (expected p b t) (is_open b.turn) (would_open p b t) (is_behind p b t) (agrees b.log t.decisions) (nat_lt 999999 b.awaited)
     (nat_lt (length b.log) (length t.decisions)) (more b t)
 
 -- The record after a token, by the answer: only an opened turn and a lesson change it.
-abbrev pub token_after : Plan → Box → Token → Result Outcome BoxFault → Box
-token_after p b t (Ok outcome.Opened) = opened p b t
+abbrev pub token_after : Plan → Box → Token → Result (Outcome (Unit {0})) BoxFault → Box
+token_after p b t (Ok (outcome.Opened tt)) = opened p b t
 token_after p b t (Ok (outcome.Learned k)) = logging b t.decisions None
 token_after p b t (Ok outcome.Kept) = b
 token_after p b t (Ok outcome.Known) = b
@@ -106,25 +106,25 @@ token_after p b t (Ok outcome.Stale) = b
 token_after p b t (Err e) = b
 
 -- The answer to an order by its tests.
-abbrev pub order_by : (used unordered logged : Bool) → Result Outcome BoxFault
+abbrev pub order_by : (used unordered logged : Bool) → Result (Outcome (Unit {0})) BoxFault
 order_by used unordered logged = cond (not used) (Err fault.Sender) (cond (unordered || logged) (Ok outcome.Known) (Ok outcome.Kept))
 
 -- What a box answers to an order: it is kept if its id is neither unordered nor in the log.
-abbrev pub order_answer : Box → Entry → Result Outcome BoxFault
+abbrev pub order_answer : Box → Entry → Result (Outcome (Unit {0})) BoxFault
 order_answer b e = order_by (used b e.id) (has e.id (ids_of b.unordered)) (has e.id (log_ids b.log))
 
 -- The record after an order, by the answer: only a kept order changes it.
-abbrev pub order_after : Box → Entry → Result Outcome BoxFault → Box
+abbrev pub order_after : Box → Entry → Result (Outcome (Unit {0})) BoxFault → Box
 order_after b e (Ok outcome.Kept) = holding b e b.last
 order_after b e (Ok outcome.Known) = b
 order_after b e (Ok outcome.Waits) = b
 order_after b e (Ok outcome.Stale) = b
-order_after b e (Ok outcome.Opened) = b
+order_after b e (Ok (outcome.Opened tt)) = b
 order_after b e (Ok (outcome.Learned k)) = b
 order_after b e (Err f) = b
 
 -- What a box that is on answers to the contents of a frame.
-abbrev pub answer : Plan → Box → Content → Result Outcome BoxFault
+abbrev pub answer : Plan → Box → Content → Result (Outcome (Unit {0})) BoxFault
 answer p b (order e) = order_answer b e
 answer p b (token t) = token_answer p b t
 

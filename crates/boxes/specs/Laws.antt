@@ -22,7 +22,7 @@ use Rattle.boxes.specs.Cases.{Handled}
 -- What a box makes of contents as a function fits what is told of it by cases, and nothing else does.
 pub record AnswersFit : Type 0 where
   pub fit : (p : Plan) (b : Box) (c : Content) → Handled p b c (answer p b c) (box_after p b c)
-  pub alone : (p : Plan) (b : Box) (c : Content) (r : Result Outcome BoxFault) (b' : Box) → Handled p b c r b' → (r ≡ answer p b c) × (b' ≡ box_after p b c)
+  pub alone : (p : Plan) (b : Box) (c : Content) (r : Result (Outcome (Unit {0})) BoxFault) (b' : Box) → Handled p b c r b' → (r ≡ answer p b c) × (b' ≡ box_after p b c)
 
 -- A log begins another where its entries in a row and its decisions' lengths begin the other's.
 pub record ByParts (xs ys : List (List Entry)) : Type 0 where
@@ -63,7 +63,7 @@ pub record ComesFrom (p : Plan) (sent : List Entry) (H : History Entry) (b : Box
 -- the unordered entries were.
 abbrev pub TurnsMakeTokens : Type 0
 TurnsMakeTokens =
-    (p : Plan) (i : ℕ) (b : Box) (t : Token) → Keeps p i b → LawfulToken p t → answer p b (token t) ≡ Ok outcome.Opened →
+    (p : Plan) (i : ℕ) (b : Box) (t : Token) → Keeps p i b → LawfulToken p t → answer p b (token t) ≡ Ok (outcome.Opened tt) →
     (sent : List Entry) → AllByRecursion (Has sent) b.unordered → (H : History Entry) → Logged H b →
     ComesFrom p sent H b t (passed (opened p b t) (opened_turn p b t))
 

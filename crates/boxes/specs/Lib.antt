@@ -6,3 +6,4 @@ pub mod Calls
 pub mod Cases
 pub mod Laws
 pub mod Worked
+pub mod Outcomes

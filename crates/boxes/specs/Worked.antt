@@ -49,20 +49,20 @@ late awaited log = record { n = 3; f = 1; seat = 1; awaited = awaited; log = log
 pub record Worked : Type 0 where
   -- box 1 keeps the order of box 0 and puts it forward when round 0 comes
   pub kept : answer three (started three 1) (order slew) ≡ Ok outcome.Kept
-  pub opened : answer three keeping (token first_token) ≡ Ok outcome.Opened
+  pub opened : answer three keeping (token first_token) ≡ Ok (outcome.Opened tt)
   pub puts_forward : turning.turn ≡ Some (voting (slew ∷ []))
   pub round-one : passed turning (voting (slew ∷ [])) ≡ token_of 1 2 (slew ∷ []) []
   pub awaits : waiting.awaited ≡ 4
   -- box 2 lets round 0 wait, and decides with its vote on round 1; the order is then known
   pub waits : answer three (started three 2) (token first_token) ≡ Ok outcome.Waits
-  pub decides : answer three (started three 2) (token (token_of 1 2 (slew ∷ []) [])) ≡ Ok outcome.Opened
+  pub decides : answer three (started three 2) (token (token_of 1 2 (slew ∷ []) [])) ≡ Ok (outcome.Opened tt)
   pub decided : deciding.log ≡ (slew ∷ []) ∷ []
   pub proposes_none : deciding.turn ≡ Some (voting [])
   pub known : answer three deciding (order slew) ≡ Ok outcome.Known
   -- box 1 finds a dummy stale, and lets round 2 wait until it doubts its predecessor
   pub stale : answer three waiting (token (dummy_of 2)) ≡ Ok outcome.Stale
   pub trusting : answer three waiting (token (token_of 2 3 [] ((slew ∷ []) ∷ []))) ≡ Ok outcome.Waits
-  pub doubtful : answer three (doubting true waiting) (token (token_of 2 3 [] ((slew ∷ []) ∷ []))) ≡ Ok outcome.Opened
+  pub doubtful : answer three (doubting true waiting) (token (token_of 2 3 [] ((slew ∷ []) ∷ []))) ≡ Ok (outcome.Opened tt)
   pub takes_over : (box_after three (doubting true waiting) (token (token_of 2 3 [] ((slew ∷ []) ∷ [])))).log ≡ (slew ∷ []) ∷ []
   pub leaves : (box_after three (doubting true waiting) (token (token_of 2 3 [] ((slew ∷ []) ∷ [])))).unordered ≡ []
   -- a token of a round more than a ring back teaches

@@ -1,15 +1,17 @@
 #![tactic(auto)]
 
 ghost use Rattle.std.specs.Prelude.{◌≡◌};
+ghost use Rattle.boxes.specs.declared.BoxFault.TheVariants as fault;
+ghost use Rattle.boxes.specs.Outcomes.{Maps};
 ghost use Rattle.boxes.specs.Laws.{AnswersFit, ListsAsToken, TestsDecide, LogsGrow, TurnsMakeTokens, RecordsStay, UnorderedStay, FramesRead, RefusalsStay, MeantFor};
 ghost use Rattle.boxes.specs.Rows.{box_row};
 ghost use Rattle.boxes.specs.Worked.{Worked};
 
-use frames::FrameFault;
+use frames::{FrameFault, Refusal};
 
-/// What a box answers to a frame.
-#[derive(Clone, Copy)]
-pub enum Outcome {
+/// What a box answers to a frame; `T` is what is told of an opened turn.
+#[derive(Clone, Copy, Debug, PartialEq, Eq, Drop)]
+pub enum Outcome<T = ()> {
     /// The order is now among the unordered entries.
     Kept,
     /// The order's id is unordered or in the log already.
@@ -21,11 +23,11 @@ pub enum Outcome {
     /// The token is far behind, and the log now has so many more decisions.
     Learned(u8),
     /// A turn is open.
-    Opened,
+    Opened(T),
 }
 
 /// Why a box refuses a call; the record stays.
-#[derive(Clone, Copy)]
+#[derive(Clone, Copy, Debug, PartialEq, Eq)]
 pub enum BoxFault {
     /// The buffer has no room for every frame.
     Short,
@@ -49,11 +51,35 @@ pub enum BoxFault {
     Turn,
 }
 
-impl BoxFault {
-    /// The number of the refusal.
-    pub fn row(&self) -> u8
-        ensures { result ≡ box_row self.now }
+impl<T> Outcome<T> {
+    /// The same answer, with what `tell` makes of an opened turn.
+    pub fn map<U, F: FnOnce(T) -> U + Drop>(self, tell: F) -> Outcome<U>
+        requires { F.IsAlwaysCallable tell }
+        ensures { Maps (F.post tell) self result }
     {
+        match self {
+            Outcome::Kept => Outcome::Kept,
+            Outcome::Known => Outcome::Known,
+            Outcome::Waits => Outcome::Waits,
+            Outcome::Stale => Outcome::Stale,
+            Outcome::Learned(more) => Outcome::Learned(more),
+            Outcome::Opened(turn) => Outcome::Opened(tell(turn)),
+        }
+    }
+}
+
+impl From<FrameFault> for BoxFault {
+    ghost from_gives = { λ e r. r ≡ fault.Frame e };
+
+    fn from(fault: FrameFault) -> BoxFault {
+        BoxFault::Frame(fault)
+    }
+}
+
+impl Refusal for BoxFault {
+    ghost number = { box_row };
+
+    fn row(&self) -> u8 {
         match *self {
             BoxFault::Short => 1,
             BoxFault::Plan => 2,

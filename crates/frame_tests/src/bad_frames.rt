@@ -3,19 +3,9 @@ use frames::{Cause, FrameFault, Plan};
 use reading::read;
 use std::test::Fail;
 
-fn three() -> Result<Plan, Fail> {
-    match Plan::new(3, 1) {
-        Ok(plan) => Ok(plan),
-        Err(_) => Err(Fail::new("no plan")),
-    }
-}
-
 /// The fault of a frame, or none.
 fn fault(plan: &Plan, bytes: &[u8]) -> Option<FrameFault> {
-    match read(plan, bytes) {
-        Ok(_) => None,
-        Err(fault) => Some(fault),
-    }
+    read(plan, bytes).err()
 }
 
 fn at(place: usize, cause: Cause) -> Option<FrameFault> {
@@ -24,7 +14,8 @@ fn at(place: usize, cause: Cause) -> Option<FrameFault> {
 
 #[test]
 fn each_truncation(rt: HostRuntime) -> Result<(), Fail> {
-    let plan = three()?;
+    let plan = Plan::new(3, 1)?;
+    // k is where the frame ends
     for k in 0..48 {
         assert!(rt; fault(&plan, &LONGER[0..k]) == at(k, Cause::Length));
     }
@@ -34,7 +25,7 @@ fn each_truncation(rt: HostRuntime) -> Result<(), Fail> {
 
 #[test]
 fn one_surplus_byte(rt: HostRuntime) -> Result<(), Fail> {
-    let plan = three()?;
+    let plan = Plan::new(3, 1)?;
     let mut more = [1; 49];
     more[0..48].copy_from_slice(&LONGER);
     assert!(rt; fault(&plan, &more) == at(48, Cause::Length));
@@ -68,7 +59,7 @@ const CHANGES: [(usize, u8, usize, Cause); 21] = [
 
 #[test]
 fn each_cause(rt: HostRuntime) -> Result<(), Fail> {
-    let plan = three()?;
+    let plan = Plan::new(3, 1)?;
     for (k, value, place, cause) in CHANGES {
         let mut bytes = LONGER;
         if k < 48 {
@@ -81,7 +72,8 @@ fn each_cause(rt: HostRuntime) -> Result<(), Fail> {
 
 #[test]
 fn dummies_and_orders(rt: HostRuntime) -> Result<(), Fail> {
-    let plan = three()?;
+    let plan = Plan::new(3, 1)?;
+    // k is the place of a byte that is not 0
     for k in 7..10 {
         let mut bytes = DUMMY;
         bytes[k] = 1;
@@ -95,6 +87,7 @@ fn dummies_and_orders(rt: HostRuntime) -> Result<(), Fail> {
         bytes[2] = id;
         assert!(rt; fault(&plan, &bytes) == at(2, Cause::Range));
     }
+    // k is where the frame ends
     for k in 0..11 {
         assert!(rt; fault(&plan, &ORDER[0..k]) == at(k, Cause::Length));
     }
@@ -103,9 +96,7 @@ fn dummies_and_orders(rt: HostRuntime) -> Result<(), Fail> {
 
 #[test]
 fn two_votes_for_nothing(rt: HostRuntime) -> Result<(), Fail> {
-    let Ok(seven) = Plan::new(7, 2) else {
-        return Err(Fail::new("no plan"));
-    };
+    let seven = Plan::new(7, 2)?;
     let bytes = [0x02, 0x72, 1, 0, 0, 0, 2, 2, 0, 0];
     assert!(rt; fault(&seven, &bytes) == at(8, Cause::Range));
     Ok(())
@@ -151,7 +142,8 @@ fn changed(k: usize, v: u8) -> Option<FrameFault> {
 
 #[test]
 fn each_change_of_a_byte(rt: HostRuntime) -> Result<(), Fail> {
-    let plan = three()?;
+    let plan = Plan::new(3, 1)?;
+    // byte k becomes v, each value of a byte
     for k in 0..19 {
         for v in 0..=255 {
             if TOKEN[k] != v {

@@ -1,26 +1,20 @@
 use crate::{DUMMY, LONGER, ORDER, TOKEN};
-use frames::{Entry, Frame, Plan, PlanFault};
+use frames::{Entry, Frame, Plan, PlanFault, Refusal};
 use parts::{decision_at, entry_at, entry_count};
 use reading::read;
 use std::test::Fail;
 use writing::{Draft, write_order, write_token};
 
-fn plan(n: u8, f: u8) -> Result<Plan, Fail> {
-    match Plan::new(n, f) {
-        Ok(plan) => Ok(plan),
-        Err(_) => Err(Fail::new("no plan")),
-    }
-}
-
 #[test]
 fn plans(rt: HostRuntime) -> Result<(), Fail> {
+    // n is each number of boxes that a byte can say
     for n in 0..=255 {
         assert!(rt; Plan::new(n, 0).is_err() && Plan::new(n, 3).is_err());
         assert!(rt; Plan::new(n, 1).is_ok() == (n >= 3 && n <= 7));
         assert!(rt; Plan::new(n, 2).is_ok() == (n == 7));
     }
     assert!(rt; PlanFault::Plan.row() == 2);
-    let seven = plan(7, 2)?;
+    let seven = Plan::new(7, 2)?;
     assert!(rt; seven.byte() == 0x72);
     assert!(rt; seven.successor(5, 3) == 1 && seven.predecessor(1, 3) == 5);
     assert!(rt;
@@ -32,7 +26,7 @@ fn plans(rt: HostRuntime) -> Result<(), Fail> {
 
 #[test]
 fn an_order(rt: HostRuntime) -> Result<(), Fail> {
-    let three = plan(3, 1)?;
+    let three = Plan::new(3, 1)?;
     let Ok(Frame::Order { entry }) = read(&three, &ORDER) else {
         return Err(Fail::new("no order"));
     };
@@ -49,7 +43,7 @@ fn an_order(rt: HostRuntime) -> Result<(), Fail> {
 
 #[test]
 fn a_dummy_and_a_token(rt: HostRuntime) -> Result<(), Fail> {
-    let three = plan(3, 1)?;
+    let three = Plan::new(3, 1)?;
     let Ok(
         Frame::Token {
             sender,
@@ -85,7 +79,7 @@ fn a_dummy_and_a_token(rt: HostRuntime) -> Result<(), Fail> {
 
 #[test]
 fn decisions_in_turn(rt: HostRuntime) -> Result<(), Fail> {
-    let three = plan(3, 1)?;
+    let three = Plan::new(3, 1)?;
     let Ok(
         Frame::Token {
             stamp,
@@ -119,15 +113,15 @@ fn all_orders() -> [Entry; 105] {
         id: 0,
         body: [9; 8],
     }; 105];
-    for i in 0..105 {
-        entries[i].id = (16 * (i / 15) + i % 15 + 1) as u8;
+    for (i, entry) in entries.iter_mut().enumerate() {
+        entry.id = (16 * (i / 15) + i % 15 + 1) as u8;
     }
     entries
 }
 
 #[test]
 fn the_longest(rt: HostRuntime) -> Result<(), Fail> {
-    let seven = plan(7, 1)?;
+    let seven = Plan::new(7, 1)?;
     let entries = all_orders();
     let draft = Draft {
         sender: 0,

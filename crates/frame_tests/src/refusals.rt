@@ -1,57 +1,47 @@
-use frames::{Cause, Entry, FrameFault, Plan};
+use frames::{Cause, Entry, FrameFault, Plan, Refusal};
 use std::process::Abort;
 use std::test::Fail;
 use writing::{Draft, WriteFault, write_order, write_token};
-
-fn three() -> Result<Plan, Fail> {
-    match Plan::new(3, 1) {
-        Ok(plan) => Ok(plan),
-        Err(_) => Err(Fail::new("no plan")),
-    }
-}
 
 const fn entry(id: u8) -> Entry {
     Entry { id, body: [5; 8] }
 }
 
-/// The row, and for a frame's fault its place and its cause.
-fn refused(r: Result<usize, WriteFault>) -> (u8, usize, Option<Cause>) {
-    match r {
-        Ok(n) => (0, n, None),
-        Err(WriteFault::Short) => (1, 0, None),
-        Err(WriteFault::Frame(FrameFault { place, cause })) => (9, place, Some(cause)),
-    }
+/// A frame's fault, as writing carries it.
+fn at(place: usize, cause: Cause) -> Result<usize, WriteFault> {
+    Err(WriteFault::Frame(FrameFault { place, cause }))
 }
 
 fn untouched(out: &[u8]) -> bool {
-    for b in out {
-        if *b != 7 {
-            return false;
-        }
-    }
-    true
+    out.iter().all(|b| *b == 7)
 }
 
 /// Writing a draft is refused by row 9 with this place and cause, and the buffer is left.
 fn refuses(rt: &impl Abort, plan: &Plan, draft: &Draft, place: usize, cause: Cause) {
     let mut out = [7; 1060];
-    assert!(rt; refused(write_token(plan, draft, &mut out)) == (9, place, Some(cause)));
+    assert!(rt; write_token(plan, draft, &mut out) == at(place, cause));
     assert!(rt; untouched(&out));
 }
 
 #[test]
 fn a_short_buffer(rt: HostRuntime) -> Result<(), Fail> {
-    let plan = three()?;
+    let plan = Plan::new(3, 1)?;
     let mut out = [7; 1060];
-    assert!(rt; refused(write_order(&plan, &entry(0), &mut out[0..1059])) == (1, 0, None));
-    assert!(rt; refused(write_order(&plan, &entry(0x30), &mut out)) == (9, 2, Some(Cause::Range)));
+    assert!(rt; write_order(&plan, &entry(0), &mut out[0..1059]) == Err(WriteFault::Short));
+    assert!(rt; WriteFault::Short.row() == 1);
+    let fault = FrameFault {
+        place: 2,
+        cause: Cause::Range,
+    };
+    assert!(rt; write_order(&plan, &entry(0x30), &mut out) == at(2, Cause::Range));
+    assert!(rt; WriteFault::Frame(fault).row() == 9);
     assert!(rt; untouched(&out));
     Ok(())
 }
 
 #[test]
 fn what_would_not_read_back(rt: HostRuntime) -> Result<(), Fail> {
-    let plan = three()?;
+    let plan = Plan::new(3, 1)?;
     let good = Draft {
         sender: 1,
         stamp: 2,
@@ -136,6 +126,6 @@ fn what_would_not_read_back(rt: HostRuntime) -> Result<(), Fail> {
         Cause::Range,
     );
     let mut out = [7; 1060];
-    assert!(rt; refused(write_token(&plan, &good, &mut out)) == (0, 57, None));
+    assert!(rt; write_token(&plan, &good, &mut out) == Ok(57));
     Ok(())
 }

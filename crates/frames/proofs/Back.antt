@@ -3,14 +3,14 @@ use Rattle.std.proofs.Common.{◌≡◌, ℕ, zero, suc, ◌+◌, ◌-◌, ◌*�
 use Rattle.std.specs.List.{flat_map, AllByRecursion}
 use Rattle.std.proofs.lemmas.Bool.Decides.{nat_tests}
 use Rattle.std.proofs.ByRecursion.{All-take, All-drop, All-get_or}
-use Rattle.std.proofs.lemmas.List.{append_assoc, drop-drop, drop_more, take-append-drop}
+use Rattle.std.proofs.lemmas.List.{append_assoc, drop-drop, drop_more, take-append-drop, append-nil, nil_from_length}
 use Rattle.std.proofs.lemmas.Bool.{cond-true, cond-false, ltb-false, leb-false, eqb-false, eqb-true, or_parts, cases_Bool}
 use Rattle.frames.specs.declared.plan.Plan.{Plan}
 use Rattle.frames.specs.Contents.{Content, LawfulEntry, LawfulDecision, LawfulToken, Ascend, Once, entry_bytes, decision_bytes, ids_of, bytes_of, token_bytes, has, Lawful, plan_byte, four_bytes}
 use Rattle.frames.specs.Contents.Content.{order, token}
 use Rattle.frames.specs.Reading.{Rest, entries_as, decisions_as, entries_in, decisions_in, entry_in, out_of_range, ended, read_as, order_as, token_as, lists_as, token_in, bad_round, bad_votes, bad_proposed, bad_decided, start_at, next_byte, past_entry, past_count}
 use Rattle.frames.proofs.Steps.{passed, came, ten}
-use Rattle.frames.proofs.Written.{past, once_join, none_of, append_none, GoodHead}
+use Rattle.frames.proofs.Written.{past, once_join, GoodHead}
 
 abbrev pub Bytes : List ℕ → Type 0
 Bytes = AllByRecursion (λ b. b < 256)
@@ -125,7 +125,7 @@ finished : (c c' : Content) (r : Rest) → ended c r ≡ Ok c' → (r.bytes ≡ 
 finished c c' r q =
     let a = passed _ _ _ _ q in
     let none : length r.bytes ≤ 0 = ltb-false _ _ a.0 in
-    (none_of r.bytes (omega arith), let e = a.1 in cc)
+    (nil_from_length r.bytes (omega arith), let e = a.1 in cc)
 
 order_back : (p : Plan) (bs : List ℕ) (c : Content) → Bytes bs → 2 ≤ length bs → get_or bs 0 0 ≡ 1 → get_or bs 1 0 ≡ plan_byte p → order_as p bs ≡ Ok c → Back p bs c
 order_back p bs c b long kind plan q =
@@ -136,8 +136,8 @@ order_back p bs c b long kind plan q =
     let d1 = drop_more bs 1 0 (omega arith) in
     let none = f.0 in
     let front = es.front in
-    let x = append_none (entry_bytes (entry_in (drop 2 bs))) in
-    let y = append_none (entry_bytes (entry_in (drop 2 bs)) ++ []) in
+    let x = append-nil (entry_bytes (entry_in (drop 2 bs))) in
+    let y = append-nil (entry_bytes (entry_in (drop 2 bs)) ++ []) in
     subst (Back p bs) f.1 (cc, (es.each (All-drop _ 2 bs b)).0)
 
 -- the four bytes of a stamp are those that it was read from
@@ -199,8 +199,8 @@ lawful_token p bs r r' h b es ds =
       dummy = λ e. record {
         late_sender = round.1 e;
         no_votes = votes.0 e;
-        no_proposal = none_of t.proposal (es.count ∙ proposed.0 e);
-        no_decisions = none_of t.decisions (ds.count ∙ decided e);
+        no_proposal = nil_from_length t.proposal (es.count ∙ proposed.0 e);
+        no_decisions = nil_from_length t.decisions (ds.count ∙ decided e);
       };
       round = λ e. record {
         in_turn = round.2 e;
@@ -226,7 +226,7 @@ token_back p bs c b kind plan q =
     subst (λ z. Decisions p (get_or bs 9 0) z (past [] (ids_of t.proposal)) m.mid) es.left
     (subst (λ z. Decisions p (get_or bs 9 0) m2.mid.bytes z m.mid) es.now_met (decisions p (get_or bs 9 0) m2.mid m.mid m2.then)) in
     let lists : flat_map entry_bytes t.proposal ++ flat_map decision_bytes t.decisions ≡ drop 10 bs =
-    ap (λ z. flat_map entry_bytes t.proposal ++ z) (sym (append_none _) ∙ ap (λ z. flat_map decision_bytes t.decisions ++ z) (sym f.0) ∙ ds.front ∙ sym es.left) ∙ es.front in
+    ap (λ z. flat_map entry_bytes t.proposal ++ z) (sym (append-nil _) ∙ ap (λ z. flat_map decision_bytes t.decisions ++ z) (sym f.0) ∙ ds.front ∙ sym es.left) ∙ es.front in
     subst (Back p bs) f.1 (whole_token p bs long b kind plan es.count ds.count lists, lawful_token p bs _ _ head b es ds)
   where
     whole_token : (p : Plan) (bs : List ℕ) → 10 ≤ length bs → Bytes bs → get_or bs 0 0 ≡ 2 → get_or bs 1 0 ≡ plan_byte p →

@@ -1,3 +1,4 @@
+pub mod Marks
 pub mod Ring
 pub mod Steps
 pub mod Written

@@ -107,11 +107,11 @@ entries_bytes [] w = tt
 entries_bytes (e ∷ es) w = All-append (λ b. b < 256) (entry_bytes e) (flat_map entry_bytes es) (w.0.id_byte, w.0.bytes) (entries_bytes es w.1)
 
 module _ (p : Plan) where
-  ids_in_range : (es : List Entry) → AllByRecursion (LawfulEntry p) es → AllByRecursion (InRange p) (ids_of es)
+  pub ids_in_range : (es : List Entry) → AllByRecursion (LawfulEntry p) es → AllByRecursion (InRange p) (ids_of es)
   ids_in_range [] l = tt
   ids_in_range (e ∷ es) l = (l.0.id_in_range, ids_in_range es l.1)
 
-  all_ids_in_range : (ds : List (List Entry)) → AllByRecursion (LawfulDecision p) ds → AllByRecursion (InRange p) (flat_map ids_of ds)
+  pub all_ids_in_range : (ds : List (List Entry)) → AllByRecursion (LawfulDecision p) ds → AllByRecursion (InRange p) (flat_map ids_of ds)
   all_ids_in_range [] l = tt
   all_ids_in_range (d ∷ ds) l = All-append (InRange p) (ids_of d) (flat_map ids_of ds) (ids_in_range d l.0.entries.each) (all_ids_in_range ds l.1)
 

@@ -4,7 +4,7 @@ use native.Mathlib.Nat.{div-add-mod, div-div-eq-div-mul}
 use native.Mathlib.Decide.{ℕ_discrete}
 use Rattle.std.specs.List.{flat_map, AllByRecursion}
 use Rattle.std.proofs.lemmas.Bool.Decides.{nat_tests}
-use Rattle.std.proofs.lemmas.List.{append_assoc, drop_at, take_at}
+use Rattle.std.proofs.lemmas.List.{append_assoc, drop_at, take_at, append-nil, nil_from_length}
 use Rattle.std.proofs.lemmas.Bool.{cond-false, le-ltb, lt-leb, ne_eqb, or_from}
 use Rattle.frames.specs.declared.plan.Plan.{Plan}
 use Rattle.frames.specs.declared.Entry.{Entry}
@@ -104,14 +104,6 @@ decisions-in (d ∷ ds) rest w =
     ap (λ z. decisions_in (length ds) z) (ap (drop (9 * length d)) whole ∙ drop_at (flat_map entry_bytes d) more (9 * length d) (joined_length d w.0)) ∙ decisions-in ds rest w.1 in
     λ i. head i ∷ tail i
 
-pub none_of : {X : Type 0} (xs : List X) → length xs ≡ 0 → xs ≡ []
-none_of [] e = refl
-none_of (x ∷ xs) e = absurd (omega arith)
-
-pub append_none : {X : Type 0} (xs : List X) → xs ++ [] ≡ xs
-append_none [] = refl
-append_none (x ∷ xs) = ap (λ z. x ∷ z) (append_none xs)
-
 pub four : (s : ℕ) → s < 2 ^ 32 → s / 16777216 % 256 * 16777216 + s / 65536 % 256 * 65536 + s / 256 % 256 * 256 + s % 256 ≡ s
 four s h =
     let e0 = div-add-mod s 256 in
@@ -146,7 +138,7 @@ good_proposed p t l =
       | yes e ↦ let d = ap length (l.dummy e).no_proposal in grind (arith, nat_tests)
       | no e ↦
           elim (ℕ_discrete (length t.proposal) 0) [
-            | yes z ↦ let d = (l.round e).one_vote (none_of t.proposal z) in grind (arith, nat_tests)
+            | yes z ↦ let d = (l.round e).one_vote (nil_from_length t.proposal z) in grind (arith, nat_tests)
             | no z ↦ grind (arith, nat_tests)
           ]
     ]
@@ -166,7 +158,7 @@ token-in p t h w v =
     let proposal = entries-in t.proposal ds w in
     let d : drop (9 * length t.proposal) (es ++ ds) ≡ ds = drop_at es ds _ (joined_length t.proposal w) in
     let decisions : decisions_in (length t.decisions) (drop (9 * length t.proposal) (es ++ ds)) ≡ t.decisions =
-    ap (λ z. decisions_in (length t.decisions) z) (d ∙ sym (append_none ds)) ∙ decisions-in t.decisions [] v in
+    ap (λ z. decisions_in (length t.decisions) z) (d ∙ sym (append-nil ds)) ∙ decisions-in t.decisions [] v in
     λ i. record { sender = t.sender; stamp = stamp i; votes = t.votes; proposal = proposal i; decisions = decisions i }
 
 lists_read : (p : Plan) (t : Token) → LawfulToken p t → lists_as p (token_bytes p t) ≡ Ok (token t)
@@ -176,7 +168,7 @@ lists_read p t l =
     let first = entries_read p t.proposal 0 10 [] ds l.proposal_lawful.each l.proposal_lawful.ascend os.0 in
     let (r, reads, left) = decisions_read p t.decisions (place_after 10 t.proposal) (past [] (ids_of t.proposal)) [] l.decisions_lawful os.1 in
     let second : decisions_as p (length t.decisions) (after 10 [] t.proposal ds) ≡ Ok r =
-    ap (λ z. decisions_as p (length t.decisions) (after 10 [] t.proposal z)) (sym (append_none ds)) ∙ reads in
+    ap (λ z. decisions_as p (length t.decisions) (after 10 [] t.proposal z)) (sym (append-nil ds)) ∙ reads in
     let both = through _ (decisions_as p (length t.decisions)) _ first ∙ second in
     let none : ltb 0 (length r.bytes) ≡ false = le-ltb _ _ (omega (arith, ap length left)) in
     through _ (ended (token (token_in (token_bytes p t)))) _ both ∙ cond-false _ _ _ none ∙ ap (λ z. Ok (token z)) (token-in p t (small t.stamp l.stamp_fits) (whole_entries p t.proposal l.proposal_lawful.each) (whole_decisions p t.decisions l.decisions_lawful))
@@ -207,9 +199,9 @@ by_kind p bs h e k o q =
 
 order_read : (p : Plan) (e : Entry) → LawfulEntry p e → order_as p (bytes_of p (order e)) ≡ Ok (order e)
 order_read p e l =
-    let whole = append_none e.body in
+    let whole = append-nil e.body in
     let first : entries_as p 1 0 (record { at = 2; bytes = e.id ∷ e.body; met = [] }) ≡ Ok (after 2 [] (e ∷ []) []) =
-    ap (λ z. entries_as p 1 0 (record { at = 2; bytes = e.id ∷ z; met = [] })) (sym (append_none (e.body ++ []) ∙ whole))
+    ap (λ z. entries_as p 1 0 (record { at = 2; bytes = e.id ∷ z; met = [] })) (sym (append-nil (e.body ++ []) ∙ whole))
     ∙ entries_read p (e ∷ []) 0 2 [] [] (l, tt) (positive e.id l.id_in_range.1, tt) (refl, tt) in
     let body : take 8 e.body ≡ e.body = ap (take 8) (sym whole) ∙ take_at e.body [] 8 l.eight in
     through _ (ended (order (entry_in (e.id ∷ e.body)))) _ first ∙ ap (λ z. Ok (order (record { id = e.id; body = z }))) body

@@ -1,8 +1,12 @@
 -- What a frame holds, which contents are lawful for a plan, and how contents are written.
-use Rattle.std.specs.Prelude.{◌≡◌, ℕ, ◌+◌, ◌-◌, ◌*◌, ◌/◌, ◌%◌, ◌<◌, ◌≤◌, Bool, false, ◌||◌, ◌≢◌, List, [], ◌∷◌, ◌++◌, map, length, take, drop, ◌==◌, slice_index_or}
+use Rattle.std.specs.Prelude.{◌≡◌, ℕ, Ok, Err, Result, ◌+◌, ◌-◌, ◌*◌, ◌/◌, ◌%◌, ◌<◌, ◌≤◌, Bool, false, ◌||◌, ◌≢◌, List, [], ◌∷◌, ◌++◌, map, length, take, drop, ◌==◌, slice_index_or}
 use Rattle.std.specs.List.{flat_map, AllByRecursion}
 use Rattle.frames.specs.declared.plan.Plan.{Plan}
 use Rattle.frames.specs.declared.Entry.{Entry}
+use Rattle.frames.specs.declared.FrameKind.{FrameKind}
+use Rattle.frames.specs.declared.FrameKind.TheVariants as kind
+use Rattle.frames.specs.declared.Cause.{Cause}
+use Rattle.frames.specs.declared.Cause.TheVariants as cause
 
 -- A token's round is told by its stamp, which is one more: 0 is a dummy's.
 pub record Token : Type 0 where
@@ -19,6 +23,12 @@ pub data Content : Type 0 where
 -- no frame of a plan is longer
 abbrev pub frame_most : ℕ
 frame_most = 1060
+
+-- the kind that a frame's first byte names: 1 an order, 2 a token, and no other
+abbrev pub NamesKind : ℕ → Result FrameKind Cause → Type 0
+NamesKind byte (Ok kind.Order) = byte ≡ 1
+NamesKind byte (Ok kind.Token) = byte ≡ 2
+NamesKind byte (Err e) = (e ≡ cause.Kind) × ((byte ≢ 1) × (byte ≢ 2))
 
 -- Writing
 

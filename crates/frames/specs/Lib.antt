@@ -5,3 +5,4 @@ pub mod Views
 pub mod Rows
 pub mod Laws
 pub mod Examples
+pub mod Ids

@@ -1,5 +1,5 @@
 -- The number of each refusal, and the word for each cause of a frame's fault.
-use Rattle.std.specs.Prelude.{ℕ, List, codes}
+use Rattle.std.specs.Prelude.{ℕ, List, ◌++◌, codes, decimal}
 use Rattle.frames.specs.declared.PlanFault.{PlanFault}
 use Rattle.frames.specs.declared.PlanFault.TheVariants as fault
 use Rattle.frames.specs.declared.FrameFault.{FrameFault}
@@ -19,3 +19,7 @@ cause_name cause.Kind = codes "kind"
 cause_name cause.Plan = codes "plan"
 cause_name cause.Range = codes "range"
 cause_name cause.Ids = codes "ids"
+
+-- a fault in words: the place and the cause
+abbrev pub frame_fault_words : FrameFault → List ℕ
+frame_fault_words e = codes "byte " ++ (decimal e.place ++ (codes ", " ++ cause_name e.cause))

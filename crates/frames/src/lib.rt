@@ -1,25 +1,31 @@
 #![tactic(auto)]
 
-ghost use Rattle.std.specs.Prelude.{◌≡◌, ◌+◌, ◌*◌, ◌/◌, ◌%◌, ◌<◌};
-ghost use Rattle.frames.specs.Contents.{plan_byte};
+ghost use Rattle.std.specs.Prelude.{◌≡◌, ◌+◌, ◌*◌, ◌/◌, ◌%◌, ◌<◌, Some};
+ghost use Rattle.frames.specs.Contents.{plan_byte, NamesKind};
 ghost use Rattle.frames.specs.Examples.{Worked, WorkedPlans};
 ghost use Rattle.frames.specs.Laws.{WrittenReadsBack, ReadWritesBack, OneWriting, WrittenFits, FrontFirst};
 ghost use Rattle.frames.specs.Plans.{Makes, dummy_reach};
-ghost use Rattle.frames.specs.Rows.{plan_row, frame_row, cause_name};
+ghost use Rattle.frames.specs.Rows.{plan_row, frame_row, cause_name, frame_fault_words};
 
+use std::fmt;
+
+mod ids;
 pub mod plan;
+mod refusal;
 
+pub use ids::IdSet;
 pub use plan::Plan;
+pub use refusal::Refusal;
 
 /// Why numbers are no plan.
-#[derive(Clone, Copy)]
+#[derive(Clone, Copy, Debug, PartialEq, Eq)]
 pub enum PlanFault {
     /// n is not 3 to 7, f not 1 or 2, or n below f(f+1)+1.
     Plan,
 }
 
 /// An order: its id, which is 16 times the sending box and a serial of 1 to 15, and its body.
-#[derive(Clone, Copy)]
+#[derive(Clone, Copy, Debug, PartialEq, Eq)]
 pub struct Entry {
     pub id: u8,
     pub body: [u8; 8],
@@ -34,8 +40,15 @@ pub const BOXES_MAX: usize = 7;
 /// The refusal that carries a frame's fault, in every layer.
 const FRAME_ROW: u8 = 9;
 
+/// What a frame is, by its first byte.
+#[derive(Clone, Copy, Debug, PartialEq, Eq)]
+pub enum FrameKind {
+    Order = 1,
+    Token = 2,
+}
+
 /// What is wrong with the first byte at fault of a frame.
-#[derive(Clone, Copy, PartialEq)]
+#[derive(Clone, Copy, Debug, PartialEq, Eq)]
 pub enum Cause {
     /// The frame ends before this byte, or should have ended.
     Length,
@@ -50,7 +63,7 @@ pub enum Cause {
 }
 
 /// The first byte at fault of a frame.
-#[derive(Clone, Copy, PartialEq)]
+#[derive(Clone, Copy, Debug, PartialEq, Eq)]
 pub struct FrameFault {
     pub place: usize,
     pub cause: Cause,
@@ -58,7 +71,7 @@ pub struct FrameFault {
 
 /// A frame that was read, by kind; its parts are the frame's own bytes.
 /// A token's stamp is its round and one, so that a dummy, of round -1, has stamp 0.
-#[derive(Clone, Copy)]
+#[derive(Clone, Copy, Debug, PartialEq, Eq)]
 pub enum Frame<'a> {
     Order {
         entry: &'a [u8],
@@ -89,7 +102,7 @@ impl Plan {
         Ok(Plan { n, f })
     }
 
-    /// The same plan once more, for another seat of it.
+    /// The same plan once more, for another seat of it: a plan is moved, not copied, so that each seat has asked for its own.
     pub fn again(&self) -> Plan
         ensures { result ≡ self.now }
     {
@@ -166,22 +179,34 @@ impl Entry {
     }
 }
 
-impl PlanFault {
-    /// The number of the refusal.
-    pub fn row(&self) -> u8
-        ensures { result ≡ plan_row self.now }
-    {
+impl TryFrom<u8> for FrameKind {
+    type Error = Cause;
+
+    ghost try_from_gives = { NamesKind };
+
+    fn try_from(byte: u8) -> Result<FrameKind, Cause> {
+        match byte {
+            1 => Ok(FrameKind::Order),
+            2 => Ok(FrameKind::Token),
+            _ => Err(Cause::Kind),
+        }
+    }
+}
+
+impl Refusal for PlanFault {
+    ghost number = { plan_row };
+
+    fn row(&self) -> u8 {
         match *self {
             PlanFault::Plan => 2,
         }
     }
 }
 
-impl FrameFault {
-    /// The number of the refusal.
-    pub fn row(&self) -> u8
-        ensures { result ≡ frame_row self.now }
-    {
+impl Refusal for FrameFault {
+    ghost number = { frame_row };
+
+    fn row(&self) -> u8 {
         FRAME_ROW
     }
 }
@@ -198,6 +223,24 @@ impl Cause {
             Cause::Range => "range",
             Cause::Ids => "ids",
         }
+    }
+}
+
+impl fmt::Display for Cause {
+    ghost output = { λ c. Some (cause_name c) };
+
+    fn fmt<W: fmt::Write>(&self, f: &mut fmt::Formatter<W>) -> fmt::Result {
+        f.write_str(self.name())
+    }
+}
+
+impl fmt::Display for FrameFault {
+    ghost output = { λ e. Some (frame_fault_words e) };
+
+    fn fmt<W: fmt::Write>(&self, f: &mut fmt::Formatter<W>) -> fmt::Result {
+        let place = self.place;
+        let cause = self.cause;
+        write!(f, "byte {place}, {cause}")
     }
 }
 

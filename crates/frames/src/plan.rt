@@ -1,7 +1,7 @@
 ghost use Rattle.std.specs.Prelude.{◌+◌, ◌*◌, ◌≤◌};
 
 /// An array's plan: n boxes in a ring, of which f may fail. Only a checked pair of numbers becomes one.
-#[derive(Drop)]
+#[derive(Debug, PartialEq, Eq, Drop)]
 pub struct Plan {
     pub(crate) n: u8,
     pub(crate) f: u8,

@@ -1,8 +1,6 @@
 -- Of any two tokens of a lawful history, the decisions of one begin those of the other.
-use Rattle.std.proofs.Common.{◌≡◌, ℕ, ◌+◌, ◌<◌, ◌≤◌, ◌≢◌, List, [], length, sym, ap, ◌∙◌, subst, inl, inr, arith, length-append}
-use mathlib.Core.Option.{some}
-use native.Mathlib.Decide.{ℕ_discrete, dec_lt}
-use lib.ListN.{get_elem?}
+use Rattle.std.proofs.Common.{◌≡◌, ℕ, ◌+◌, ◌<◌, ◌≤◌, ◌≢◌, List, [], length, sym, ap, ◌∙◌, subst, inl, inr, arith, length-append, slice_get, Some}
+use Rattle.std.proofs.lemmas.Bool.{cases_eq, cases_lt}
 use Rattle.history.specs.Tokens.{Token, Rule, Relation, Step, Next, Created, Lawful}
 use Rattle.history.specs.Tokens.Step.{old, keep, fresh, decide}
 use Rattle.history.specs.Tokens.Created.{dummy, first, later}
@@ -43,15 +41,15 @@ module _ {E : Type 0} (Fit : Rule E) (Made : Relation E) (f : ℕ) (law : Lawful
 
   counts_on : (s : ℕ) (t : Token E) → Made s t → Created Fit Made f s t → Earlier law Counts s → Counts s t
   counts_on s t m by ih y u mu le lt =
-      elim (ℕ_discrete y s) [
-        | yes e ↦ let q = one e mu m in record { decided = cc; proposed = cc }
-        | no ne ↦ go ne by
+      elim (cases_eq y s) [
+        | inl e ↦ let q = one e mu m in record { decided = cc; proposed = cc }
+        | inr ne ↦ go ne by
       ]
     where
       back : y ≢ s → (x : Next Fit Made f s t) → Step Fit Made f s x.at t x.parent → Alike t u
       back ne x (old r) = absurd (omega arith)
       back ne x (keep r) =
-          let e : s ≡ x.at + 1 = elim (ℕ_discrete s (x.at + 1)) [ yes e ↦ e | no skip ↦ absurd (omega (arith, r.skipped skip)) ] in
+          let e : s ≡ x.at + 1 = elim (cases_eq s (x.at + 1)) [ inl e ↦ e | inr skip ↦ absurd (omega (arith, r.skipped skip)) ] in
           let a = ih x.at x.parent x.before x.made y u mu (omega arith) (omega (arith, r.joined e)) in
           record { decided = cc; proposed = cc }
       back ne x (fresh r) = absurd (omega arith)
@@ -67,13 +65,13 @@ module _ {E : Type 0} (Fit : Rule E) (Made : Relation E) (f : ℕ) (law : Lawful
 
   -- each decision of a token was made somewhere
   abbrev MadeSomewhere : ℕ → Token E → Type 0
-  MadeSomewhere s t = (k : ℕ) (v : List E) → get_elem? t.decisions k ≡ some v → Origin Made f k v
+  MadeSomewhere s t = (k : ℕ) (v : List E) → slice_get t.decisions k ≡ Some v → Origin Made f k v
 
   made_on : (s : ℕ) (t : Token E) → Made s t → Created Fit Made f s t → Earlier law MadeSomewhere s → MadeSomewhere s t
   made_on s t m by ih k v e = go by
     where
       none-yet : t.decisions ≡ [] → Origin Made f k v
-      none-yet u = let z : ◌≡◌ {A = ℕ} 0 1 = cc (rw u at e) in absurd (omega arith)
+      none-yet u = cc (rw u at e)
 
       back : (x : Next Fit Made f s t) → Step Fit Made f s x.at t x.parent → Origin Made f k v
       back x (old r) = ih r.from r.other r.earlier r.made k v (rw r.decided at e)
@@ -111,14 +109,14 @@ module _ {E : Type 0} (Fit : Rule E) (Made : Relation E) (f : ℕ) (law : Lawful
 
     above_on : (y : ℕ) (t : Token E) → Made y t → Created Fit Made f y t → Earlier law Voted y → Voted y t
     above_on y t m by ih voted =
-        elim (dec_lt o.at y) [
-          | no le ↦
+        elim (cases_lt o.at y) [
+          | inr le ↦
               let a = counts o.at o.parent o.parent_made y t m (omega arith) (omega arith) in
               record { enough = omega (arith, ap length a.decided); locked = λ _. sym a.proposed ∙ o.proposes }
-          | yes lt ↦
-              elim (ℕ_discrete (o.at + 1) y) [
-                | yes e ↦ let q = one e o.child_made m in let l = ap (λ (w : Token E). length w.decisions) q in more (omega arith)
-                | no ne ↦ go lt ne by
+          | inl lt ↦
+              elim (cases_eq (o.at + 1) y) [
+                | inl e ↦ let q = one e o.child_made m in let l = ap (λ (w : Token E). length w.decisions) q in more (omega arith)
+                | inr ne ↦ go lt ne by
               ]
         ]
       where
@@ -131,9 +129,9 @@ module _ {E : Type 0} (Fit : Rule E) (Made : Relation E) (f : ℕ) (law : Lawful
             let l = ap length r.decided in
             record { enough = omega arith; locked = λ z. r.same ∙ a.locked (omega arith) }
         back x a (fresh r) =
-            more (elim (dec_lt k (length x.parent.decisions)) [
-              | yes l ↦ omega (arith, ap length r.decided)
-              | no l ↦ absurd (o.proposed (sym (a.locked (omega arith)) ∙ r.unproposed))
+            more (elim (cases_lt k (length x.parent.decisions)) [
+              | inl l ↦ omega (arith, ap length r.decided)
+              | inr l ↦ absurd (o.proposed (sym (a.locked (omega arith)) ∙ r.unproposed))
             ])
         back x a (decide r) = more (rw r.decided (simp length-append (omega arith)))
 
@@ -153,12 +151,12 @@ module _ {E : Type 0} (Fit : Rule E) (Made : Relation E) (f : ℕ) (law : Lawful
 
   same : (k : ℕ) (v w : List E) → Origin Made f k v → Origin Made f k w → v ≡ w
   same k v w o q =
-      elim (dec_lt o.at q.at) [
-        | yes lt ↦ later_same k v w o q lt
-        | no le ↦
-            elim (dec_lt q.at o.at) [
-              | yes lt ↦ sym (later_same k w v q o lt)
-              | no ge ↦ let e = one (omega arith) o.parent_made q.parent_made in cc (o.proposes, q.proposes)
+      elim (cases_lt o.at q.at) [
+        | inl lt ↦ later_same k v w o q lt
+        | inr le ↦
+            elim (cases_lt q.at o.at) [
+              | inl lt ↦ sym (later_same k w v q o lt)
+              | inr ge ↦ let e = one (omega arith) o.parent_made q.parent_made in cc (o.proposes, q.proposes)
             ]
       ]
 

@@ -4,6 +4,7 @@ pub mod Agreement
 pub mod Counts
 pub mod Repeats
 pub mod Sends
+pub mod Laws
 pub mod Listed
 pub mod Growth
 pub mod Orders

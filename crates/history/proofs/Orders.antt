@@ -1,6 +1,6 @@
 -- A lawful history of a plan's orders is sound: its tokens agree and are lawful frames.
-use Rattle.std.proofs.Common.{◌≡◌, ℕ, ◌+◌, ◌<◌, ◌≤◌, ◌≢◌, List, [], ◌∷◌, length, sym, refl, ◌∙◌, subst, arith}
-use native.Mathlib.Decide.{ℕ_discrete}
+use Rattle.std.proofs.Common.{◌≡◌, ℕ, ◌+◌, ◌<◌, ◌≤◌, ◌≢◌, List, [], ◌∷◌, length, sym, refl, ◌∙◌, subst, inl, inr, arith}
+use Rattle.std.proofs.lemmas.Bool.{cases_eq}
 use Rattle.std.specs.List.{ContainsAt as Has, flat_map, AllByRecursion}
 use Rattle.std.proofs.ByRecursion.{All-push, All-weaker, has_append_right}
 use Rattle.frames.specs.declared.plan.Plan.{Plan}
@@ -23,7 +23,7 @@ pub put_clear : (p : Plan) (sent : List Entry) (ds : List (List Entry)) (new : L
 put_clear p sent ds new h =
     fewer_once (flat_map ids_of ds) (ids_of new) (λ i. record { most = ascend_most i 0 (ids_of new) h.lawful.ascend; apart = none_in i (flat_map ids_of ds) (ids_of new) h.undecided })
 
-some_long : {X : Type 0} (xs : List X) → xs ≢ [] → 0 < length xs
+pub some_long : {X : Type 0} (xs : List X) → xs ≢ [] → 0 < length xs
 some_long [] h = absurd (h refl)
 some_long (x ∷ xs) h = omega arith
 
@@ -65,7 +65,7 @@ module _ (p : Plan) (sent : List Entry) (Made : Relation Entry) (law : Lawful (P
       back x u (old r) = renewed x.at x.before r.one_vote r.fits (rw r.decided (ih r.from r.other r.earlier r.made).decisions_lawful)
       back x u (keep r) = record {
         dummy_empty = λ z. absurd (omega (arith, x.before));
-        voted = λ _. elim (ℕ_discrete s (x.at + 1)) [ yes e ↦ omega (arith, r.joined e) | no ne ↦ omega (arith, r.skipped ne) ];
+        voted = λ _. elim (cases_eq s (x.at + 1)) [ inl e ↦ omega (arith, r.joined e) | inr ne ↦ omega (arith, r.skipped ne) ];
         few = r.short;
         one_vote = λ _ e. absurd (r.proposed (sym r.same ∙ e));
         proposal_lawful = rw r.same u.proposal_lawful;

@@ -1,9 +1,8 @@
 -- The histories of the shortcuts, token by token.
-use Rattle.std.proofs.Common.{◌≡◌, ℕ, ◌+◌, ◌<◌, ◌≤◌, true, false, ◌≢◌, [], ◌∷◌, refl, inl, inr, arith}
+use Rattle.std.proofs.Common.{◌≡◌, ℕ, ◌+◌, ◌<◌, ◌≤◌, ◌≢◌, [], ◌∷◌, refl, inl, inr, arith, slice_get, Some}
 use mathlib.Core.List.{cons≢nil}
-use mathlib.Core.Option.{some}
-use lib.ListN.{get_elem?}
 use Rattle.std.specs.List.{AllByRecursion}
+use Rattle.std.proofs.lemmas.Bool.{true≢false}
 use Rattle.history.specs.Tokens.{Token, Rule, Any, Decide, Step, Created}
 use Rattle.history.specs.Tokens.Step.{keep, fresh, decide}
 use Rattle.history.specs.Tokens.Created.{dummy, first}
@@ -23,16 +22,16 @@ module _ (Fit : Rule ℕ) (H : History ℕ) (f : ℕ) where
   one : Created Fit (In H) f 1 (empty 1)
   one = first refl (record { voted = refl; unproposed = refl; undecided = refl })
 
-  opening : (s e place : ℕ) → get_elem? H place ≡ some (1, empty 1) → (1 < s) × (s ≤ 1 + f + 1) → Fit [] (e ∷ []) → Created Fit (In H) f s (proposed 1 e)
+  opening : (s e place : ℕ) → slice_get H place ≡ Some (1, empty 1) → (1 < s) × (s ≤ 1 + f + 1) → Fit [] (e ∷ []) → Created Fit (In H) f s (proposed 1 e)
   opening s e place q near fits = from_place Fit H f s 1 place (proposed 1 e) (empty 1) q near (fresh (record { unproposed = refl; decided = refl; one_vote = refl; fits = fits }))
 
-  skipping : (s p v e place : ℕ) → get_elem? H place ≡ some (p, proposed v e) → (p + 1 < s) × (s ≤ p + f + 1) × (1 ≤ f) → Created Fit (In H) f s (proposed 1 e)
+  skipping : (s p v e place : ℕ) → slice_get H place ≡ Some (p, proposed v e) → (p + 1 < s) × (s ≤ p + f + 1) × (1 ≤ f) → Created Fit (In H) f s (proposed 1 e)
   skipping s p v e place q near = from_place Fit H f s p place (proposed 1 e) (proposed v e) q (omega (arith, near.0), near.1) (keep (keep_over f s p (proposed v e) cons≢nil (omega (arith, near.0)) near.2))
 
-  joining : (p v e place : ℕ) → get_elem? H place ≡ some (p, proposed v e) → v + 1 ≤ f → Created Fit (In H) f (p + 1) (proposed (v + 1) e)
+  joining : (p v e place : ℕ) → slice_get H place ≡ Some (p, proposed v e) → v + 1 ≤ f → Created Fit (In H) f (p + 1) (proposed (v + 1) e)
   joining p v e place q few = from_place Fit H f (p + 1) p place (proposed (v + 1) e) (proposed v e) q (omega arith, omega arith) (keep (keep_next f p (proposed v e) cons≢nil few))
 
-  deciding : (p e place : ℕ) → get_elem? H place ≡ some (p, proposed f e) → Fit ((e ∷ []) ∷ []) [] → Created Fit (In H) f (p + 1) (decided e)
+  deciding : (p e place : ℕ) → slice_get H place ≡ Some (p, proposed f e) → Fit ((e ∷ []) ∷ []) [] → Created Fit (In H) f (p + 1) (decided e)
   deciding p e place q fits = from_place Fit H f (p + 1) p place (decided e) (proposed f e) q (omega arith, omega arith) (decide (lone Fit f p e fits))
 
   -- but for the stamp s, all tokens are made by the rules
@@ -54,7 +53,7 @@ heads x y (inl b) = let e = b.1 in cc
 heads x y (inr b) = let e = b.1 in cc
 
 -- one token has 7 as its first decision, another 8
-split : (H : History ℕ) (s s' place place' : ℕ) → get_elem? H place ≡ some (s, decided 7) → get_elem? H place' ≡ some (s', decided 8) → Split H
+split : (H : History ℕ) (s s' place place' : ℕ) → slice_get H place ≡ Some (s, decided 7) → slice_get H place' ≡ Some (s', decided 8) → Split H
 split H s s' place place' q q' = record {
   s = s;
   s' = s';
@@ -62,7 +61,7 @@ split H s s' place place' q q' = record {
   t' = decided 8;
   made = at_place H place (s, decided 7) q;
   made' = at_place H place' (s', decided 8) q';
-  apart = λ a. let e = heads (7 ∷ []) (8 ∷ []) a in let z : ◌≡◌ {A = ℕ} 7 8 = cc in omega arith;
+  apart = λ a. let e = heads (7 ∷ []) (8 ∷ []) a in cc;
 }
 
 gap_others : AllByRecursion (But Any gap_history 1 4) gap_history
@@ -226,7 +225,7 @@ kept_repeat = record {
   s = 7;
   t = again;
   made = at_place kept_history 0 _ refl;
-  twice = λ o. let e : true ≡ false = o.1.0 in let z : ◌≡◌ {A = ℕ} 0 1 = cc in omega arith;
+  twice = λ o. true≢false o.1.0;
 }
 
 pub shortcuts_fail : ShortcutsFail

@@ -1,8 +1,6 @@
 -- The worked history is built token by token.
-use Rattle.std.proofs.Common.{◌≡◌, ℕ, ◌+◌, ◌<◌, ◌≤◌, false, List, [], ◌∷◌, refl, arith}
+use Rattle.std.proofs.Common.{◌≡◌, ℕ, ◌+◌, ◌<◌, ◌≤◌, false, List, [], ◌∷◌, refl, arith, slice_get, Some}
 use mathlib.Core.List.{cons≢nil}
-use mathlib.Core.Option.{some}
-use lib.ListN.{get_elem?}
 use Rattle.frames.specs.declared.Entry.{Entry}
 use Rattle.frames.specs.Contents.{has}
 use Rattle.history.specs.Tokens.{Token, Old, Keep, Fresh, Decide, Step, Lawful}
@@ -15,7 +13,7 @@ use Rattle.history.proofs.Growth.{grown, grows}
 use Rattle.history.proofs.Orders.{orders_agree}
 
 -- one more token, from the parent at a place of the list
-more : (H : History Entry) (s : ℕ) (t : Token Entry) (at : ℕ) (u : Token Entry) (place : ℕ) → Lawful (Put seven sent) (In H) 2 → get_elem? H place ≡ some (at, u) → (at < s) × (s ≤ at + 2 + 1) → has s (stamps H) ≡ false → Step (Put seven sent) (In H) 2 s at t u → Lawful (Put seven sent) (In ((s, t) ∷ H)) 2
+more : (H : History Entry) (s : ℕ) (t : Token Entry) (at : ℕ) (u : Token Entry) (place : ℕ) → Lawful (Put seven sent) (In H) 2 → slice_get H place ≡ Some (at, u) → (at < s) × (s ≤ at + 2 + 1) → has s (stamps H) ≡ false → Step (Put seven sent) (In H) 2 s at t u → Lawful (Put seven sent) (In ((s, t) ∷ H)) 2
 more H s t at u place law q near free step = grown (Put seven sent) 2 H s t law (from_place (Put seven sent) H 2 s at place t u q near step) (free_of s H free)
 
 put_slew : Put seven sent [] (slew ∷ [])

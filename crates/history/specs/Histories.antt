@@ -1,14 +1,12 @@
 -- Histories kept as maps and as lists, and what is claimed of them.
-use Rattle.std.specs.Prelude.{◌≡◌, ℕ, ◌⊎◌, List, [], ◌∷◌, ◌++◌, map}
-use mathlib.Core.List.{Memᴰ}
-use Rattle.std.proofs.Math.Option.{Option, some}
-use Rattle.std.specs.List.{ContainsAt as Has, flat_map, AllByRecursion}
+use Rattle.std.specs.Prelude.{◌≡◌, ℕ, ◌⊎◌, List, [], ◌∷◌, ◌++◌, map, Some, Option}
+use Rattle.std.specs.List.{Contains, ContainsAt as Has, flat_map, AllByRecursion}
 use Rattle.frames.specs.Contents.{Once}
 use Rattle.history.specs.Tokens.{Token, Relation, Rule}
 
 -- A history as a map: the token of each stamp, if it has one.
 abbrev pub At : {E : Type 0} → (ℕ → Option (Token E)) → Relation E
-At T s t = T s ≡ some t
+At T s t = T s ≡ Some t
 
 -- A history as a list of stamps and tokens, in the order in which they were made, the newest first.
 abbrev pub History : Type 0 → Type 0
@@ -16,7 +14,7 @@ History E = List (ℕ × Token E)
 
 -- The tokens that are in the list.
 abbrev pub In : {E : Type 0} → History E → Relation E
-In H s t = Memᴰ (s, t) H
+In H s t = Contains H (s, t)
 
 -- No token of this stamp is in the list.
 abbrev pub Free : {E : Type 0} → History E → ℕ → Type 0
@@ -58,7 +56,7 @@ Clear id ds new = Once (flat_map (map id) ds) (map id new)
 abbrev pub flat : {A : Type 0} → List (List A) → List A
 flat ds = flat_map (λ d. d) ds
 
--- AllByRecursion entries of a token are among those sent.
+-- All entries of a token are among those sent.
 abbrev pub Sent : {E : Type 0} → List E → Token E → Type 0
 Sent sent t = AllByRecursion (Has sent) t.proposal × AllByRecursion (Has sent) (flat t.decisions)
 

@@ -1,6 +1,5 @@
 -- What holds of every lawful history.
-use Rattle.std.specs.Prelude.{ℕ, List, ◌∷◌}
-use Rattle.std.proofs.Math.Option.{Option}
+use Rattle.std.specs.Prelude.{ℕ, List, ◌∷◌, Option}
 use Rattle.history.specs.Tokens.{Token, Relation, Rule, Any, Created, Lawful}
 use Rattle.history.specs.Histories.{At, History, In, Free, begun, Agreeing, Unrepeated, Clear, Uninvented, From}
 

@@ -1,4 +1,4 @@
-mod More
 mod Form
 mod Known
 mod Asked
+mod More

@@ -2,9 +2,6 @@
 use Rattle.std.specs.Prelude.{ℕ, ◌+◌, ◌-◌, ◌^◌, min}
 use Rattle.inspect.specs.declared.tally.Tally.{Tally}
 
-abbrev pub none_yet : Tally
-none_yet = record { frames = 0; faults = 0 }
-
 -- a count stops at the largest number
 abbrev pub one_more : ℕ → ℕ
 one_more n = min (n + 1) (2 ^ 64 - 1)

@@ -4,11 +4,12 @@ use Rattle.std.specs.List.{flat_map}
 use Rattle.frames.specs.declared.Entry.{Entry}
 use Rattle.frames.specs.Contents.{Content}
 use Rattle.frames.specs.Contents.Content.{order, token}
-use Rattle.frames.specs.Rows.{cause_name}
-use Rattle.lines.specs.declared.LineFault.TheVariants as line
+use Rattle.lines.specs.Rows.{line_fault_words}
 use Rattle.lines.specs.Digits.{line_of}
 use Rattle.inspect.specs.declared.texts.TextFault.{TextFault}
 use Rattle.inspect.specs.declared.texts.TextFault.TheVariants as fault
+use Rattle.inspect.specs.declared.words.Role.{Role}
+use Rattle.inspect.specs.declared.words.Role.TheVariants as role
 use Rattle.inspect.specs.Form.{text_row}
 
 -- an entry's id, the box and the serial that this tells, and its body
@@ -25,6 +26,12 @@ entry_lines prefix = flat_map (entry_line prefix)
 
 abbrev pub numbered : ℕ → List ℕ
 numbered k = codes "  decision " ++ (decimal k ++ codes ": ")
+
+-- what stands before each entry of a list
+abbrev pub prefix_of : Role → List ℕ
+prefix_of role.Order = codes "order "
+prefix_of role.Proposed = codes "  proposed "
+prefix_of (role.Decided k) = numbered k
 
 -- decisions are numbered, from k on
 abbrev pub decision_lines : ℕ → List (List Entry) → List ℕ
@@ -48,9 +55,7 @@ frame_words (token t) = head_line t.sender t.stamp t.votes ++ (entry_lines (code
 abbrev pub place_and_cause : TextFault → List ℕ
 place_and_cause (fault.Form column) = codes "column " ++ (decimal column ++ codes ", form")
 place_and_cause (fault.Plan e) = codes "plan"
-place_and_cause (fault.Line line.Short) = codes "short"
-place_and_cause (fault.Line (line.Line column)) = codes "column " ++ (decimal column ++ codes ", line")
-place_and_cause (fault.Line (line.Frame e)) = codes "byte " ++ (decimal e.place ++ (codes ", " ++ cause_name e.cause))
+place_and_cause (fault.Line e) = line_fault_words e
 
 abbrev pub fault_words : TextFault → List ℕ
 fault_words e = codes "fault: row " ++ (decimal (text_row e) ++ (codes ", " ++ (place_and_cause e ++ codes "\n")))

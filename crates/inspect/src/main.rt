@@ -36,7 +36,7 @@ fn tell(heap: Global, text: &[u8], tally: &mut Tally) -> Result<String, AllocErr
 
 fn main(rt: HostRuntime) -> io::Result<()> {
     let heap = rt.alloc();
-    let mut tally = Tally::new();
+    let mut tally = Tally::default();
     for text in BufReader::new(heap, rt.stdin())?.split(heap, b'\n') {
         let words = tell(heap, text?.as_slice(), &mut tally)?;
         print!(rt; "{words}")?;

@@ -1,24 +1,14 @@
 ghost use Rattle.std.specs.Prelude.{◌≡◌};
-ghost use Rattle.inspect.specs.Counting.{none_yet, one_frame, one_fault};
+ghost use Rattle.inspect.specs.Counting.{one_frame, one_fault};
 
 /// How many text lines held a frame, and how many a fault.
-#[derive(Clone, Copy)]
+#[derive(Clone, Copy, Debug, Default, PartialEq, Eq)]
 pub(crate) struct Tally {
     pub(crate) frames: u64,
     pub(crate) faults: u64,
 }
 
 impl Tally {
-    /// Nothing is counted yet.
-    pub(crate) fn new() -> Tally
-        ensures { result ≡ none_yet }
-    {
-        Tally {
-            frames: 0,
-            faults: 0,
-        }
-    }
-
     /// Counts a frame.
     pub(crate) fn count_frame(&mut self)
         ensures { self.new ≡ one_frame self.old }

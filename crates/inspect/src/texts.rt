@@ -1,15 +1,17 @@
-ghost use Rattle.std.specs.Prelude.{◌≡◌};
+ghost use Rattle.std.specs.Prelude.{◌≡◌, Some};
 ghost use Rattle.lines.specs.declared.LineFault.TheVariants as line;
 ghost use Rattle.inspect.specs.declared.texts.TextFault.TheVariants as fault;
 ghost use Rattle.inspect.specs.Form.{text_row, digit_at, split_as, parted};
 ghost use Rattle.inspect.specs.Means.{ReadsText};
+ghost use Rattle.inspect.specs.Telling.{place_and_cause};
 
-use frames::{Frame, FrameFault, Plan, PlanFault};
+use frames::{Frame, FrameFault, Plan, PlanFault, Refusal};
 use lines::{FRAME_ROOM, LineFault, digit_value, line_bytes};
 use reading::read;
+use std::fmt;
 
 /// Why a text line holds no frame.
-#[derive(Clone, Copy)]
+#[derive(Clone, Copy, Debug, PartialEq, Eq)]
 pub(crate) enum TextFault {
     /// It does not begin with two digits and a space.
     Form { column: usize },
@@ -20,21 +22,33 @@ pub(crate) enum TextFault {
 }
 
 /// A text line by its parts.
-#[derive(Clone, Copy)]
+#[derive(Clone, Copy, Debug, PartialEq, Eq)]
 struct Split<'t> {
     byte: u8,
     line: &'t [u8],
 }
 
-impl TextFault {
-    /// The number of the refusal.
-    pub(crate) fn row(&self) -> u8
-        ensures { result ≡ text_row self.now }
-    {
+impl Refusal for TextFault {
+    ghost number = { text_row };
+
+    fn row(&self) -> u8 {
         match *self {
             TextFault::Form { .. } => 8,
             TextFault::Plan(fault) => fault.row(),
             TextFault::Line(fault) => fault.row(),
+        }
+    }
+}
+
+/// The place of a fault, if it has one, and its cause.
+impl fmt::Display for TextFault {
+    ghost output = { λ e. Some (place_and_cause e) };
+
+    fn fmt<W: fmt::Write>(&self, f: &mut fmt::Formatter<W>) -> fmt::Result {
+        match *self {
+            TextFault::Form { column } => write!(f, "column {column}, form"),
+            TextFault::Plan(_) => write!(f, "plan"),
+            TextFault::Line(fault) => write!(f, "{fault}"),
         }
     }
 }
@@ -73,8 +87,7 @@ pub(crate) fn read_text<'a>(
     let split = split_text(text)?;
     let plan = Plan::new(split.byte / 16, split.byte % 16)?;
     let n = line_bytes(split.line, bytes)?;
-    let frame = read(&plan, &bytes[0..n])?;
-    Ok(frame)
+    Ok(read(&plan, &bytes[..n])?)
 }
 
 /// The parts of a text line: two digits, a space, and the rest.
@@ -83,12 +96,12 @@ fn split_text(text: &[u8]) -> Result<Split<'_>, TextFault>
 {
     let high = digit_at(text, 0)?;
     let low = digit_at(text, 1)?;
-    if text.len() < 3 || text[2] != b' ' {
+    let [_, _, b' ', line @ ..] = text else {
         return Err(TextFault::Form { column: 2 });
-    }
+    };
     Ok(Split {
         byte: 16 * high + low,
-        line: &text[3..],
+        line,
     })
 }
 
@@ -96,8 +109,6 @@ fn split_text(text: &[u8]) -> Result<Split<'_>, TextFault>
 fn digit_at(text: &[u8], column: usize) -> Result<u8, TextFault>
     ensures { result ≡ digit_at text.now column }
 {
-    if column >= text.len() {
-        return Err(TextFault::Form { column });
-    }
-    digit_value(text[column]).ok_or(TextFault::Form { column })
+    let character = text.get(column).ok_or(TextFault::Form { column })?;
+    digit_value(*character).ok_or(TextFault::Form { column })
 }

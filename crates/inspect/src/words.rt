@@ -1,133 +1,90 @@
-ghost use Rattle.std.specs.Prelude.{◌≡◌, List, ◌++◌, length, IfOk, string_bytes, OnOk};
-ghost use Rattle.std.specs.List.{flat_map, AllByRecursion};
+ghost use Rattle.std.specs.Prelude.{◌≡◌, Some, IfOk, string_bytes};
 ghost use Rattle.frames.specs.declared.plan.Plan.{Plan as APlan};
-ghost use Rattle.frames.specs.declared.Entry.{Entry as AnEntry};
-ghost use Rattle.frames.specs.Contents.{Content, Lawful, entry_bytes, decision_bytes, Whole};
+ghost use Rattle.frames.specs.Contents.{Content, Lawful};
 ghost use Rattle.frames.specs.Views.{view_of, shown};
 ghost use Rattle.lines.specs.Digits.{line_of};
-ghost use Rattle.inspect.specs.Telling.{entry_words, entry_line, entry_lines, numbered, decision_lines, votes_words, head_line, frame_words, place_and_cause, fault_words};
+ghost use Rattle.parts.specs.Going.{entries_of, decisions_of};
+ghost use Rattle.inspect.specs.Telling.{entry_words, entry_lines, prefix_of, decision_lines, votes_words, head_line, frame_words, fault_words};
 
 use crate::texts::TextFault;
-use frames::{Entry, Frame};
-use lines::{LineFault, two_digits};
-use parts::{decision_at, entry_at, entry_count};
+use frames::{Entry, Frame, Refusal};
+use parts::{DecisionsIn, EntriesIn};
 use std::alloc::{AllocError, Global};
+use std::fmt;
+
+/// The digits of bytes, two for each.
+#[derive(Clone, Copy)]
+struct Digits<'a>(&'a [u8]);
+
+/// An entry: its id, the box and the serial that this tells, and its body.
+#[derive(Clone, Copy)]
+struct EntryWords(Entry);
+
+/// What the entries of a list are in their frame.
+#[derive(Clone, Copy)]
+enum Role {
+    Order,
+    Proposed,
+    /// They are a decision, whose number this is.
+    Decided(usize),
+}
+
+/// A line of text for each entry in the bytes of entries.
+#[derive(Clone, Copy)]
+struct EntryLines<'a> {
+    role: Role,
+    part: &'a [u8],
+}
+
+/// The lines of text for the decisions in the bytes of decisions, which are numbered from 1.
+#[derive(Clone, Copy)]
+struct DecisionLines<'a>(&'a [u8]);
+
+/// How many votes there are.
+#[derive(Clone, Copy)]
+struct Votes(u8);
+
+/// The line of text for a token's head.
+#[derive(Clone, Copy)]
+struct HeadLine {
+    sender: u8,
+    stamp: u32,
+    votes: Votes,
+}
 
 /// What a frame holds, a line of text for each part.
 pub(crate) fn frame_words(heap: Global, frame: Frame<'_>) -> Result<String, AllocError>
     ensures { IfOk result (λ s. (p : APlan) (c : Content) → Lawful p c → view_of frame.entry ≡ shown c → string_bytes s ≡ frame_words c) }
 {
     match frame {
-        Frame::Order { entry } => entry_lines(heap, "order ", entry),
+        Frame::Order { entry } => {
+            let order = EntryLines {
+                role: Role::Order,
+                part: entry,
+            };
+            format!(in heap; "{order}")
+        }
         Frame::Token {
             sender,
             stamp,
             votes,
             proposal,
-            decided,
             decisions,
+            ..
         } => {
-            let head = head_line(heap, sender, stamp, votes)?;
-            let proposed = entry_lines(heap, "  proposed ", proposal)?;
-            let agreed = decision_lines(heap, decided, decisions)?;
+            let head = HeadLine {
+                sender,
+                stamp,
+                votes: Votes(votes),
+            };
+            let proposed = EntryLines {
+                role: Role::Proposed,
+                part: proposal,
+            };
+            let agreed = DecisionLines(decisions);
             format!(in heap; "{head}{proposed}{agreed}")
         }
     }
-}
-
-/// The line of text for a token's head.
-fn head_line(heap: Global, sender: u8, stamp: u32, votes: u8) -> Result<String, AllocError>
-    ensures { IfOk result (λ s. string_bytes s ≡ head_line sender stamp votes) }
-{
-    if stamp == 0 {
-        return format!(in heap; "dummy from box {sender}\n");
-    }
-    let round = stamp - 1;
-    let voted = votes_words(heap, votes)?;
-    format!(in heap; "token from box {sender}, round {round}, {voted}\n")
-}
-
-/// How many votes there are.
-fn votes_words(heap: Global, votes: u8) -> Result<String, AllocError>
-    ensures { IfOk result (λ s. string_bytes s ≡ votes_words votes) }
-{
-    if votes == 1 {
-        return format!(in heap; "1 vote");
-    }
-    format!(in heap; "{votes} votes")
-}
-
-/// The lines of text for decisions, which are numbered from 1.
-fn decision_lines(heap: Global, decided: u8, decisions: &[u8]) -> Result<String, AllocError>
-    ensures { IfOk result (λ s. (ds : List (List AnEntry)) → AllByRecursion (AllByRecursion Whole) ds → decided ≡ length ds → decisions.now ≡ flat_map decision_bytes ds → string_bytes s ≡ decision_lines 1 ds) }
-{
-    let mut all = String::new(heap);
-    for k in 0..decided as usize {
-        if let Some(part) = decision_at(decisions, k) {
-            push_decision(&mut all, heap, k + 1, part)?;
-        }
-    }
-    Ok(all)
-}
-
-/// Adds the lines of text for the entries of a decision.
-fn push_decision(
-    all: &mut String,
-    heap: Global,
-    number: usize,
-    part: &[u8],
-) -> Result<(), AllocError>
-    ensures { OnOk result ((es : List AnEntry) → AllByRecursion Whole es → part.now ≡ flat_map entry_bytes es → string_bytes all.new ≡ string_bytes all.old ++ entry_lines (numbered number) es) }
-{
-    let prefix = format!(in heap; "  decision {number}: ")?;
-    let lines = entry_lines(heap, prefix.as_str(), part)?;
-    all.push_str(lines.as_str())
-}
-
-/// A line of text for each entry.
-fn entry_lines(heap: Global, prefix: &str, part: &[u8]) -> Result<String, AllocError>
-    ensures { IfOk result (λ s. (es : List AnEntry) → AllByRecursion Whole es → part.now ≡ flat_map entry_bytes es → string_bytes s ≡ entry_lines prefix.now es) }
-{
-    let mut all = String::new(heap);
-    for i in 0..entry_count(part) {
-        if let Some(entry) = entry_at(part, i) {
-            push_entry(&mut all, heap, prefix, &entry)?;
-        }
-    }
-    Ok(all)
-}
-
-/// Adds the line of text for an entry.
-fn push_entry(all: &mut String, heap: Global, prefix: &str, entry: &Entry) -> Result<(), AllocError>
-    ensures { OnOk result (string_bytes all.new ≡ string_bytes all.old ++ entry_line prefix.now entry.now) }
-{
-    let words = entry_words(heap, entry)?;
-    let line = format!(in heap; "{prefix}{words}\n")?;
-    all.push_str(line.as_str())
-}
-
-/// An entry: its id, the box and the serial that this tells, and its body.
-fn entry_words(heap: Global, entry: &Entry) -> Result<String, AllocError>
-    ensures { IfOk result (λ s. string_bytes s ≡ entry_words entry.now) }
-{
-    let id = digits(heap, &[entry.id])?;
-    let sender = entry.sender();
-    let serial = entry.serial();
-    let body = digits(heap, &entry.body)?;
-    format!(in heap; "{id} (box {sender}, serial {serial}): {body}")
-}
-
-/// The digits of bytes, two for each.
-fn digits(heap: Global, bytes: &[u8]) -> Result<String, AllocError>
-    ensures { IfOk result (λ s. string_bytes s ≡ line_of bytes.now) }
-{
-    let mut all = String::new(heap);
-    for byte in bytes {
-        let [high, low] = two_digits(*byte);
-        all.push(high as char)?;
-        all.push(low as char)?;
-    }
-    Ok(all)
 }
 
 /// A fault: its row, its place if it has one, and its cause.
@@ -135,23 +92,94 @@ pub(crate) fn fault_words(heap: Global, fault: TextFault) -> Result<String, Allo
     ensures { IfOk result (λ s. string_bytes s ≡ fault_words fault) }
 {
     let row = fault.row();
-    let why = place_and_cause(heap, fault)?;
-    format!(in heap; "fault: row {row}, {why}\n")
+    format!(in heap; "fault: row {row}, {fault}\n")
 }
 
-/// The place and the cause of a fault.
-fn place_and_cause(heap: Global, fault: TextFault) -> Result<String, AllocError>
-    ensures { IfOk result (λ s. string_bytes s ≡ place_and_cause fault) }
-{
-    match fault {
-        TextFault::Form { column } => format!(in heap; "column {column}, form"),
-        TextFault::Plan(_) => format!(in heap; "plan"),
-        TextFault::Line(LineFault::Short) => format!(in heap; "short"),
-        TextFault::Line(LineFault::Line { column }) => format!(in heap; "column {column}, line"),
-        TextFault::Line(LineFault::Frame(fault)) => {
-            let place = fault.place;
-            let cause = fault.cause.name();
-            format!(in heap; "byte {place}, {cause}")
+impl fmt::Display for HeadLine {
+    ghost output = { λ h. Some (head_line h.sender h.stamp h.votes.0) };
+
+    fn fmt<W: fmt::Write>(&self, f: &mut fmt::Formatter<W>) -> fmt::Result {
+        let sender = self.sender;
+        if self.stamp == 0 {
+            return writeln!(f, "dummy from box {sender}");
         }
+        let round = self.stamp - 1;
+        let votes = self.votes;
+        writeln!(f, "token from box {sender}, round {round}, {votes}")
+    }
+}
+
+impl fmt::Display for Votes {
+    ghost output = { λ v. Some (votes_words v.0) };
+
+    fn fmt<W: fmt::Write>(&self, f: &mut fmt::Formatter<W>) -> fmt::Result {
+        let votes = self.0;
+        if votes == 1 {
+            return write!(f, "1 vote");
+        }
+        write!(f, "{votes} votes")
+    }
+}
+
+impl<'a> fmt::Display for DecisionLines<'a> {
+    ghost output = { λ d. Some (decision_lines 1 (decisions_of d.0.now)) };
+
+    fn fmt<W: fmt::Write>(&self, f: &mut fmt::Formatter<W>) -> fmt::Result {
+        for (k, decision) in DecisionsIn::new(self.0).enumerate() {
+            let role = Role::Decided(k + 1);
+            let part = decision.as_bytes();
+            let lines = EntryLines { role, part };
+            write!(f, "{lines}")?;
+        }
+        Ok(())
+    }
+}
+
+impl<'a> fmt::Display for EntryLines<'a> {
+    ghost output = { λ l. Some (entry_lines (prefix_of l.role) (entries_of l.part.now)) };
+
+    fn fmt<W: fmt::Write>(&self, f: &mut fmt::Formatter<W>) -> fmt::Result {
+        let role = self.role;
+        for entry in EntriesIn::new(self.part) {
+            let words = EntryWords(entry);
+            writeln!(f, "{role}{words}")?;
+        }
+        Ok(())
+    }
+}
+
+impl fmt::Display for Role {
+    ghost output = { λ r. Some (prefix_of r) };
+
+    fn fmt<W: fmt::Write>(&self, f: &mut fmt::Formatter<W>) -> fmt::Result {
+        match *self {
+            Role::Order => write!(f, "order "),
+            Role::Proposed => write!(f, "  proposed "),
+            Role::Decided(number) => write!(f, "  decision {number}: "),
+        }
+    }
+}
+
+impl fmt::Display for EntryWords {
+    ghost output = { λ w. Some (entry_words w.0) };
+
+    fn fmt<W: fmt::Write>(&self, f: &mut fmt::Formatter<W>) -> fmt::Result {
+        let entry = self.0;
+        let id = Digits(&[entry.id]);
+        let sender = entry.sender();
+        let serial = entry.serial();
+        let body = Digits(&entry.body);
+        write!(f, "{id} (box {sender}, serial {serial}): {body}")
+    }
+}
+
+impl<'a> fmt::Display for Digits<'a> {
+    ghost output = { λ d. Some (line_of d.0.now) };
+
+    fn fmt<W: fmt::Write>(&self, f: &mut fmt::Formatter<W>) -> fmt::Result {
+        for &byte in self.0 {
+            write!(f, "{byte:02X}")?;
+        }
+        Ok(())
     }
 }

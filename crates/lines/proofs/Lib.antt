@@ -1,4 +1,3 @@
 mod Steps
 mod Faults
 pub mod Back
-mod Worked

@@ -1,23 +1,8 @@
 -- One turn of each loop over a line.
-use Rattle.std.proofs.Common.{◌≡◌, ℕ, ◌+◌, ◌*◌, ◌/◌, ◌%◌, ◌<◌, ◌≤◌, true, false, List, [], ◌∷◌, ◌++◌, length, get_or, take, drop, set, sym, refl, ap, ◌∙◌, arith, length-drop, length-set}
-use Rattle.std.proofs.lemmas.List.{append_assoc, take-append-drop, take_more_set, drop_more, drop-set-lt, at_drop_more, at_drop_all, drop-drop, append-nil}
-use Rattle.std.proofs.lemmas.Bool.{cond-true, cond-false}
-use Rattle.lines.specs.Digits.{digit_of, digits_end, is_digit, line_of, two_digits, bytes_in, value_of}
-
-module _ (cs : List ℕ) (i : ℕ) (h : i < length cs) where
-  -- one more digit
-  pub digits_more : is_digit (get_or cs i 0) ≡ true → i + digits_end (drop i cs) ≡ (i + 1) + digits_end (drop (i + 1) cs)
-  digits_more d =
-      let e = at_drop_more digits_end cs i 0 h in
-      let t = cond-true {A = ℕ} (is_digit (get_or cs i 0)) (1 + digits_end (drop (i + 1) cs)) 0 d in
-      omega arith
-
-  -- no digit
-  pub digits_stop : is_digit (get_or cs i 0) ≡ false → i + digits_end (drop i cs) ≡ i
-  digits_stop d =
-      let e = at_drop_more digits_end cs i 0 h in
-      let t = cond-false {A = ℕ} (is_digit (get_or cs i 0)) (1 + digits_end (drop (i + 1) cs)) 0 d in
-      omega arith
+use Rattle.std.proofs.Common.{◌≡◌, ℕ, suc, ◌+◌, ◌*◌, ◌/◌, ◌%◌, ◌<◌, ◌≤◌, List, [], ◌∷◌, ◌++◌, length, map, get_or, take, drop, set, sym, refl, ap, ◌∙◌, arith, length-set}
+use Rattle.std.specs.Simd.{first_chunks}
+use Rattle.std.proofs.lemmas.List.{map-append, append_assoc, take-append-drop, take_all, take_more, take_more_set, drop-set-lt, at_drop_more, at_drop_all, drop-drop, append-nil}
+use Rattle.lines.specs.Digits.{digit_of, line_of, two_digits, bytes_in, value_of}
 
 -- the two digits of one more byte
 two_more : (out : List ℕ) (i x y : ℕ) → 2 * i + 1 < length out → take (2 * (i + 1)) (set (set out (2 * i) x) (2 * i + 1) y) ≡ take (2 * i) out ++ x ∷ y ∷ []
@@ -48,38 +33,34 @@ module _ (bs was out : List ℕ) (i : ℕ) (h : i < length bs) (room : 2 * lengt
       past e = let n : 2 * i + 2 ≡ 2 * (i + 1) = omega arith in
           ap (λ z. drop z out) (sym n) ∙ sym (drop-drop 2 (2 * i) out) ∙ ap (drop 2) e ∙ drop-drop 2 (2 * i) was ∙ ap (λ z. drop z was) n
 
-module _ (cs was out : List ℕ) (i : ℕ) (h : i < length cs / 2) (room : length cs / 2 ≤ length out) where
-  pub bytes_more : (high low : ℕ) → high ≡ value_of (get_or cs (2 * i) 0) → low ≡ value_of (get_or cs (2 * i + 1) 0) →
-      (take i out ++ bytes_in (drop (2 * i) cs) ≡ bytes_in cs) × (drop i out ≡ drop i was) →
-      (take (i + 1) (set out i (16 * high + low)) ++ bytes_in (drop (2 * (i + 1)) cs) ≡ bytes_in cs)
-      × (drop (i + 1) (set out i (16 * high + low)) ≡ drop (i + 1) was)
-  bytes_more high low high_is low-is inv =
-      let b = 16 * high + low in
-      let two : b ≡ 16 * value_of (get_or cs (2 * i) 0) + value_of (get_or cs (2 * i + 1) 0) = ap (λ z. 16 * z + low) high_is ∙ ap (λ z. 16 * value_of (get_or cs (2 * i) 0) + z) low-is in
-      let n : 2 * i + 1 + 1 ≡ 2 * (i + 1) = omega arith in
-      let d0 = drop_more cs (2 * i) 0 (omega arith) in
-      let d1 = drop_more cs (2 * i + 1) 0 (omega arith) in
-      let next : drop (2 * i) cs ≡ get_or cs (2 * i) 0 ∷ get_or cs (2 * i + 1) 0 ∷ drop (2 * (i + 1)) cs =
-      d0 ∙ ap (λ z. get_or cs (2 * i) 0 ∷ z) (d1 ∙ ap (λ z. get_or cs (2 * i + 1) 0 ∷ drop z cs) n) in
-      let rest = bytes_in (drop (2 * (i + 1)) cs) in (
-        ap (λ z. z ++ rest) (take_more_set out i b (omega arith)) ∙ append_assoc (take i out) (b ∷ []) rest
-            ∙ ap (λ z. take i out ++ z ∷ rest) two ∙ ap (λ z. take i out ++ z) (sym (ap bytes_in next)) ∙ inv.0,
-        drop-set-lt (i + 1) out i b (omega arith) ∙ sym (drop-drop 1 i out) ∙ ap (drop 1) inv.1 ∙ drop-drop 1 i was,
-      )
+-- the byte whose digits are two characters
+abbrev pub byte_of : List ℕ → ℕ
+byte_of pair = 16 * value_of (get_or pair 0 0) + value_of (get_or pair 1 0)
 
--- at the end nothing is left
-pub bytes_all : (cs was out : List ℕ) (i : ℕ) → i ≡ length cs / 2 → i ≤ length out →
-    (take i out ++ bytes_in (drop (2 * i) cs) ≡ bytes_in cs) × (drop i out ≡ drop i was) →
+-- one more byte
+pub byte_more : (pairs : List (List ℕ)) (was out : List ℕ) (i x : ℕ) → i < length pairs → i < length out → x ≡ byte_of (get_or pairs i []) →
+    (take i out ≡ map byte_of (take i pairs)) × (drop i out ≡ drop i was) →
+    (take (i + 1) (set out i x) ≡ map byte_of (take (i + 1) pairs)) × (drop (i + 1) (set out i x) ≡ drop (i + 1) was)
+byte_more pairs was out i x h room is inv = (
+  take_more_set out i x room ∙ (λ k. inv.0 k ++ is k ∷ []) ∙ sym (map-append byte_of (take i pairs) (get_or pairs i [] ∷ []))
+      ∙ ap (map byte_of) (sym (take_more pairs i [] h)),
+  drop-set-lt (i + 1) out i x (omega arith) ∙ sym (drop-drop 1 i out) ∙ ap (drop 1) inv.1 ∙ drop-drop 1 i was,
+)
+
+-- the bytes of a line are those of its pairs
+bytes_of_pairs : (cs : List ℕ) → map byte_of (first_chunks 2 (length cs / 2) cs) ≡ bytes_in cs
+bytes_of_pairs [] = refl
+bytes_of_pairs (c ∷ []) = refl
+bytes_of_pairs (c ∷ d ∷ cs) =
+    let n : length (c ∷ d ∷ cs) / 2 ≡ suc (length cs / 2) = omega arith in
+    ap (λ z. map byte_of (first_chunks 2 z (c ∷ d ∷ cs))) n ∙ ap (λ z. (16 * value_of c + value_of d) ∷ z) (bytes_of_pairs cs)
+
+pub bytes_all : (cs was out : List ℕ) (pairs : List (List ℕ)) (i : ℕ) → pairs ≡ first_chunks 2 (length cs / 2) cs → length pairs ≤ i → i ≡ length cs / 2 →
+    (take i out ≡ map byte_of (take i pairs)) × (drop i out ≡ drop i was) →
     (out ≡ bytes_in cs ++ drop (length cs / 2) was) × (take (length cs / 2) out ≡ bytes_in cs)
-bytes_all cs was out i n h inv =
-    let few : length (drop (2 * i) cs) ≤ 1 = omega (arith, length-drop (2 * i) cs) in
-    let e = sym (append-nil (take i out)) ∙ ap (λ z. take i out ++ z) (sym (no_pair (drop (2 * i) cs) few)) ∙ inv.0 in
-    (sym (take-append-drop i out) ∙ ap (λ z. z ++ drop i out) e ∙ ap (λ z. bytes_in cs ++ z) (inv.1 ∙ ap (λ z. drop z was) n), ap (λ z. take z out) (sym n) ∙ e)
-  where
-    no_pair : (cs : List ℕ) → length cs ≤ 1 → bytes_in cs ≡ []
-    no_pair [] h = refl
-    no_pair (c ∷ []) h = refl
-    no_pair (c ∷ d ∷ cs) h = absurd (omega arith)
+bytes_all cs was out pairs i q all n inv =
+    let front = inv.0 ∙ ap (map byte_of) (take_all i pairs all ∙ q) ∙ bytes_of_pairs cs in
+    (sym (take-append-drop i out) ∙ (λ k. front k ++ inv.1 k) ∙ ap (λ z. bytes_in cs ++ drop z was) n, ap (λ z. take z out) (sym n) ∙ front)
 
 pub line_all : (bs was out : List ℕ) (i : ℕ) → i ≡ length bs → 2 * i ≤ length out →
     (take (2 * i) out ++ line_of (drop i bs) ≡ line_of bs) × (drop (2 * i) out ≡ drop (2 * i) was) →

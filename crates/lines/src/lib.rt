@@ -1,17 +1,20 @@
 #![tactic(auto)]
 
-ghost use Rattle.std.specs.Prelude.{◌≡◌, ◌+◌, ◌*◌, ◌/◌, ◌<◌, ◌≤◌, ◌++◌, length, take, drop};
+ghost use Rattle.std.specs.Prelude.{◌≡◌, ◌+◌, ◌*◌, ◌/◌, ◌<◌, ◌≤◌, ◌++◌, length, take, drop, Some};
+ghost use Rattle.std.specs.Result.{result_err};
 ghost use Rattle.frames.specs.Reading.{read_as};
 ghost use Rattle.lines.specs.Digits.{digit_of, digit_value, value_of, two_digits, line_of, bytes_in, digits_end};
-ghost use Rattle.lines.specs.Rows.{line_row};
+ghost use Rattle.lines.specs.declared.LineFault.TheVariants as fault;
+ghost use Rattle.lines.specs.Rows.{line_row, line_fault_words};
 ghost use Rattle.lines.specs.Reads.{line_fault, refused_or};
 ghost use Rattle.lines.specs.Calls.{frame_fault, write_fault, bytes_fault, read_fault, kept_or, WroteLine, ReadBytes, ReadFrame};
 ghost use Rattle.lines.specs.Tested.{Framed, Writable, Readable, FrameReadable};
 ghost use Rattle.lines.specs.Laws.{LineReadsBack, LineWritesBack, OneLine, ContentsHaveLine, OneLineForContents};
 ghost use Rattle.lines.specs.Examples.{WorkedLines};
 
-use frames::{FRAME_MAX, FrameFault, Plan};
+use frames::{FRAME_MAX, FrameFault, Plan, Refusal};
 use reading::read;
+use std::fmt;
 
 /// The bytes of the longest frame.
 pub const FRAME_ROOM: usize = FRAME_MAX;
@@ -20,7 +23,7 @@ pub const FRAME_ROOM: usize = FRAME_MAX;
 pub const LINE_ROOM: usize = 2 * FRAME_ROOM;
 
 /// Why a line is not written or not read.
-#[derive(Clone, Copy, PartialEq)]
+#[derive(Clone, Copy, Debug, PartialEq, Eq)]
 pub enum LineFault {
     /// The buffer has no room for the longest frame, or its line.
     Short,
@@ -30,15 +33,34 @@ pub enum LineFault {
     Frame(FrameFault),
 }
 
-impl LineFault {
-    /// The number of the refusal.
-    pub fn row(&self) -> u8
-        ensures { result ≡ line_row self.now }
-    {
+impl Refusal for LineFault {
+    ghost number = { line_row };
+
+    fn row(&self) -> u8 {
         match *self {
             LineFault::Short => 1,
             LineFault::Line { .. } => 8,
-            LineFault::Frame(fault) => fault.row(),
+            LineFault::Frame(frame_fault) => frame_fault.row(),
+        }
+    }
+}
+
+impl From<FrameFault> for LineFault {
+    ghost from_gives = { λ e r. r ≡ fault.Frame e };
+
+    fn from(fault: FrameFault) -> LineFault {
+        LineFault::Frame(fault)
+    }
+}
+
+impl fmt::Display for LineFault {
+    ghost output = { λ e. Some (line_fault_words e) };
+
+    fn fmt<W: fmt::Write>(&self, f: &mut fmt::Formatter<W>) -> fmt::Result {
+        match *self {
+            LineFault::Short => write!(f, "short"),
+            LineFault::Line { column } => write!(f, "column {column}, line"),
+            LineFault::Frame(frame_fault) => write!(f, "{frame_fault}"),
         }
     }
 }
@@ -74,6 +96,7 @@ pub fn digit_value(character: u8) -> Option<u8>
 }
 
 /// Writes the line of a frame of the plan to the front of a buffer, and answers the line's length.
+#[tactic(auto, using(crate::proofs::Back::reads_back, crate::proofs::Back::have_line))]
 pub fn write_line(plan: &Plan, bytes: &[u8], out: &mut [u8]) -> Result<usize, LineFault>
     ensures answer { result ≡ refused_or (write_fault plan.now bytes.now (length out.old)) (2 * length bytes.now) }
     ensures buffer { out.new ≡ kept_or (write_fault plan.now bytes.now (length out.old)) out.old (line_of bytes.now ++ drop (2 * length bytes.now) out.old) }
@@ -81,9 +104,7 @@ pub fn write_line(plan: &Plan, bytes: &[u8], out: &mut [u8]) -> Result<usize, Li
     ensures back { LineReadsBack }
     ensures each { ContentsHaveLine }
 {
-    if let Some(fault) = write_fault(plan, bytes, out.len()) {
-        return Err(fault);
-    }
+    check_write(plan, bytes, out.len())?;
     put_line(bytes, out);
     Ok(2 * bytes.len())
 }
@@ -96,9 +117,7 @@ pub fn line_bytes(line: &[u8], out: &mut [u8]) -> Result<usize, LineFault>
     ensures back { LineWritesBack }
     ensures alone { OneLine }
 {
-    if let Some(fault) = bytes_fault(line, out.len()) {
-        return Err(fault);
-    }
+    check_bytes(line, out.len())?;
     put_bytes(line, out);
     Ok(line.len() / 2)
 }
@@ -112,86 +131,72 @@ pub fn read_line(plan: &Plan, line: &[u8], out: &mut [u8]) -> Result<usize, Line
     ensures alone { OneLineForContents }
     ensures worked { WorkedLines }
 {
-    if let Some(fault) = read_fault(plan, line, out.len()) {
-        return Err(fault);
-    }
+    check_read(plan, line, out.len())?;
     put_bytes(line, out);
     Ok(line.len() / 2)
 }
 
-/// Why a frame's line is not written to a buffer of this length, if it is not.
-fn write_fault(plan: &Plan, bytes: &[u8], room: usize) -> Option<LineFault>
-    ensures fault { result ≡ write_fault plan.now bytes.now room }
+/// Whether a frame's line is written to a buffer of this length.
+fn check_write(plan: &Plan, bytes: &[u8], room: usize) -> Result<(), LineFault>
+    ensures fault { result_err result ≡ write_fault plan.now bytes.now room }
     ensures tested { Writable bytes.now room result }
-    ensures back { LineReadsBack }
-    ensures each { ContentsHaveLine }
 {
     if room < LINE_ROOM {
-        return Some(LineFault::Short);
+        return Err(LineFault::Short);
     }
-    frame_fault(plan, bytes)
+    check_frame(plan, bytes)
 }
 
-/// Why a line is not read to a buffer of this length, if it is not.
-fn bytes_fault(line: &[u8], room: usize) -> Option<LineFault>
-    ensures fault { result ≡ bytes_fault line.now room }
+/// Whether a line is read to a buffer of this length.
+#[tactic(auto, using(crate::proofs::Faults::readable))]
+fn check_bytes(line: &[u8], room: usize) -> Result<(), LineFault>
+    ensures fault { result_err result ≡ bytes_fault line.now room }
     ensures tested { Readable line.now room result }
-    ensures back { LineWritesBack }
-    ensures alone { OneLine }
 {
     if room < FRAME_ROOM {
-        return Some(LineFault::Short);
+        return Err(LineFault::Short);
     }
-    line_fault(line)
+    check_line(line)
 }
 
-/// Why the line of a frame of the plan is not read to a buffer of this length, if it is not.
-fn read_fault(plan: &Plan, line: &[u8], room: usize) -> Option<LineFault>
-    ensures fault { result ≡ read_fault plan.now line.now room }
+/// Whether the line of a frame of the plan is read to a buffer of this length.
+fn check_read(plan: &Plan, line: &[u8], room: usize) -> Result<(), LineFault>
+    ensures fault { result_err result ≡ read_fault plan.now line.now room }
     ensures tested { FrameReadable plan.now line.now room result }
-    ensures alone { OneLineForContents }
-    ensures worked { WorkedLines }
 {
-    if let Some(fault) = bytes_fault(line, room) {
-        return Some(fault);
-    }
+    check_bytes(line, room)?;
     let mut bytes = [0; FRAME_ROOM];
     put_bytes(line, &mut bytes);
-    frame_fault(plan, &bytes[0..line.len() / 2])
+    check_frame(plan, &bytes[..line.len() / 2])
 }
 
-/// The fault of bytes that are no frame of the plan.
-fn frame_fault(plan: &Plan, bytes: &[u8]) -> Option<LineFault>
-    ensures fault { result ≡ frame_fault (read_as plan.now bytes.now) }
+/// Whether bytes are a frame of the plan.
+fn check_frame(plan: &Plan, bytes: &[u8]) -> Result<(), LineFault>
+    ensures fault { result_err result ≡ frame_fault (read_as plan.now bytes.now) }
     ensures tested { Framed bytes.now result }
 {
-    match read(plan, bytes) {
-        Ok(_) => None,
-        Err(fault) => Some(LineFault::Frame(fault)),
-    }
+    read(plan, bytes)?;
+    Ok(())
 }
 
-/// The fault of a line, at the column where its digits end, if it is empty, odd or too long or has another character.
-fn line_fault(line: &[u8]) -> Option<LineFault>
-    ensures { result ≡ line_fault line.now }
+/// Whether a line is neither empty, odd nor too long and has digits alone; its fault is at the column where they end.
+fn check_line(line: &[u8]) -> Result<(), LineFault>
+    ensures { result_err result ≡ line_fault line.now }
 {
     let column = digits_end(line);
     if column < line.len() || line.is_empty() || line.len() % 2 == 1 || line.len() > LINE_ROOM {
-        return Some(LineFault::Line { column });
+        return Err(LineFault::Line { column });
     }
-    None
+    Ok(())
 }
 
 /// How many characters are digits, up to the first that is none.
 fn digits_end(line: &[u8]) -> usize
     ensures { result ≡ digits_end line.now }
 {
-    for (i, character) in line.iter().enumerate() {
-        if digit_value(*character).is_none() {
-            return i;
-        }
-    }
-    line.len()
+    line.iter()
+        .position(|character| digit_value(*character).is_none())
+        .unwrap_or(line.len())
 }
 
 /// Writes the digits of bytes to the front of a buffer that has room for them.
@@ -200,6 +205,7 @@ fn put_line(bytes: &[u8], out: &mut [u8])
     ensures buffer { out.new ≡ line_of bytes.now ++ drop (2 * length bytes.now) out.old }
     ensures front { take (2 * length bytes.now) out.new ≡ line_of bytes.now }
 {
+    // by their places, since of a slice written through `chunks_exact_mut` only the length is known afterwards
     for (i, byte) in bytes.iter().enumerate() {
         let [high, low] = two_digits(*byte);
         out[2 * i] = high;
@@ -213,8 +219,9 @@ fn put_bytes(line: &[u8], out: &mut [u8])
     ensures buffer { out.new ≡ bytes_in line.now ++ drop (length line.now / 2) out.old }
     ensures front { take (length line.now / 2) out.new ≡ bytes_in line.now }
 {
-    for i in 0..line.len() / 2 {
-        out[i] = 16 * value(line[2 * i]) + value(line[2 * i + 1]);
+    let (pairs, _) = line.as_chunks::<2>();
+    for (i, [high, low]) in pairs.iter().enumerate() {
+        out[i] = 16 * value(*high) + value(*low);
     }
 }
 

@@ -1,7 +1,5 @@
 pub mod Sizes
 pub mod Stores
+pub mod Taking
 pub mod Finding
-pub mod Lined
-pub mod Frames
-pub mod Places
-pub mod Boxes
+pub mod Lawful

@@ -1,15 +1,15 @@
 -- What the tables mean.
-use Rattle.std.specs.Prelude.{ℕ, zero, suc, ◌+◌, List, [], map, length, take, filter, nat_eq, nat_le, slice_index_or}
+use Rattle.std.specs.Prelude.{ℕ, zero, suc, ◌+◌, List, [], map, length, filter, nat_eq, nat_le, slice_index_or}
+use Rattle.arrayvec.specs.ArrayVec.{ArrayVec}
 use Rattle.links.specs.Mail.{Mail}
 use Rattle.link_tables.specs.declared.slots.Held.{Held}
 use Rattle.link_tables.specs.declared.slots.Addressed.{Addressed}
-use Rattle.link_tables.specs.declared.slots.Line.{Line}
 use Rattle.link_tables.specs.declared.slots.Lines.{Lines}
 use Rattle.link_tables.specs.declared.slots.Tray.{Tray}
 use Rattle.link_tables.specs.Sizes.{tray_limit, line_limit}
 
 abbrev pub bytes_of : Held → List ℕ
-bytes_of h = take h.len h.bytes
+bytes_of h = h.bytes.items
 
 abbrev pub frame_of : Addressed → List ℕ
 frame_of a = bytes_of a.held
@@ -20,15 +20,15 @@ frames_for b slots = map frame_of (filter (λ a. nat_eq a.to b) slots)
 
 -- a tray: every box is full when all its slots are in use
 abbrev pub tray_mail : Tray → Mail
-tray_mail t = record { waiting = λ b. frames_for b (take t.used t.slots); full = λ b. nat_le tray_limit t.used }
+tray_mail t = record { waiting = λ b. frames_for b t.slots.items; full = λ b. nat_le tray_limit (length t.slots.items) }
 
 -- how many frames wait for the boxes below n
 abbrev pub in_all : ℕ → Mail → ℕ
 in_all zero m = 0
 in_all (suc n) m = in_all n m + length (m.waiting n)
 
-abbrev pub line_frames : Line → List (List ℕ)
-line_frames l = map bytes_of (take l.used l.slots)
+abbrev pub line_frames : ArrayVec Held → List (List ℕ)
+line_frames l = map bytes_of l.items
 
 -- none for a box that has no line
 abbrev pub frames_on : Lines → ℕ → List (List ℕ)

@@ -1,17 +1,13 @@
 -- What each call of a link answers and leaves.
 use Rattle.std.specs.Prelude.{◌≡◌, ℕ, Bool, true, false, cond, ◌≢◌, List, [], ◌∷◌, ◌++◌, length, drop, Some, None, Ok, Err, Option, Result, MatchOption, ◌==◌, nat_le, nat_lt, slice_index_or}
 use Rattle.std.specs.List.{remove}
+use Rattle.std.specs.Option.{option_or}
 use Rattle.frames.specs.declared.Cause.TheVariants as cause
 use Rattle.links.specs.declared.LinkFault.{LinkFault}
 use Rattle.links.specs.declared.LinkFault.TheVariants as fault
 use Rattle.links.specs.Mail.{Mail, longest, boxes}
 
 -- the fault that a call answers, if any: the topmost that fits
-
--- the first fault, or else the second
-abbrev pub or_else : Option LinkFault → Option LinkFault → Option LinkFault
-or_else None f = f
-or_else (Some e) f = Some e
 
 abbrev pub length_fault : List ℕ → Option LinkFault
 length_fault frame =
@@ -27,14 +23,14 @@ buffer_fault out = cond (nat_lt (length out) longest) (Some fault.Short) None
 
 -- by whether the box is full
 abbrev pub post_fault : ℕ → Bool → List ℕ → Option LinkFault
-post_fault to full frame = or_else (box_fault to) (cond full (Some fault.Full) (length_fault frame))
+post_fault to full frame = option_or (box_fault to) (cond full (Some fault.Full) (length_fault frame))
 
 -- by how many frames wait for the box
 abbrev pub place_fault : ℕ → ℕ → ℕ → Option LinkFault
-place_fault to waiting place = or_else (box_fault to) (cond (nat_le waiting place) (Some fault.Place) None)
+place_fault to waiting place = option_or (box_fault to) (cond (nat_le waiting place) (Some fault.Place) None)
 
 abbrev pub copy_fault : ℕ → ℕ → ℕ → List ℕ → Option LinkFault
-copy_fault to waiting place out = or_else (buffer_fault out) (place_fault to waiting place)
+copy_fault to waiting place out = option_or (buffer_fault out) (place_fault to waiting place)
 
 -- the fault, or else the value
 abbrev pub answer : {X : Type 0} → Option LinkFault → X → Result X LinkFault

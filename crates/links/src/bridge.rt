@@ -7,7 +7,7 @@ ghost use Rattle.std.proofs.Common.{rules};
 use crate::{Link, LinkFault};
 
 /// Two links as one: the boxes below a number on the first, the others on the second.
-#[derive(Drop)]
+#[derive(Debug, PartialEq, Eq, Drop)]
 pub struct Bridge<F, S> {
     split: u8,
     first: F,
@@ -36,6 +36,7 @@ impl<F: Link, S: Link> Bridge<F, S> {
 }
 
 /// What a post may fill and a removal may free is on the side of its box; the other link stays whole.
+// Each call names both sides, since the two links may be of different types.
 impl<F: Link, S: Link> Link for Bridge<F, S> {
     ghost mail = { bridge_mail F.Link.mail S.Link.mail };
 

@@ -3,10 +3,11 @@
 #![tactic(auto)]
 
 ghost use Rattle.std.specs.Prelude.{◌≡◌};
+ghost use Rattle.links.specs.declared.LinkFault.TheVariants.{Frame};
 ghost use Rattle.links.specs.Rows.{link_row};
 ghost use Rattle.links.specs.Laws.{TopmostAnswered};
 
-use frames::{BOXES_MAX, FRAME_MAX, FrameFault};
+use frames::{BOXES_MAX, FRAME_MAX, FrameFault, Refusal};
 
 mod bridge;
 mod link;
@@ -21,7 +22,7 @@ pub const LONGEST: usize = FRAME_MAX;
 pub const BOXES: usize = BOXES_MAX;
 
 /// Why a link refuses a call. Of several reasons the topmost here is answered.
-#[derive(Clone, Copy, PartialEq)]
+#[derive(Clone, Copy, Debug, PartialEq, Eq)]
 pub enum LinkFault {
     /// The buffer cannot hold every frame.
     Short,
@@ -35,9 +36,19 @@ pub enum LinkFault {
     Frame(FrameFault),
 }
 
-impl LinkFault {
+impl From<FrameFault> for LinkFault {
+    ghost from_gives = { λ fault e. e ≡ Frame fault };
+
+    fn from(frame_fault: FrameFault) -> LinkFault {
+        LinkFault::Frame(frame_fault)
+    }
+}
+
+impl Refusal for LinkFault {
+    ghost number = { link_row };
+
     /// The number of the refusal. Of the refusals that fit a call, the one with the lowest number is answered.
-    pub fn row(&self) -> u8
+    fn row(&self) -> u8
         ensures number { result ≡ link_row self.now }
         ensures topmost { TopmostAnswered }
     {

@@ -1,88 +1,53 @@
--- Entries that stay, moved to the front in one pass.
-use Rattle.std.proofs.Common.{◌≡◌, ℕ, ◌+◌, ◌<◌, ◌≤◌, Bool, true, false, cond, not, ◌&&◌, ◌||◌, eqb, List, [], ◌∷◌, ◌++◌, length, get_or, take, drop, set, filter, sym, refl, ap, ◌∙◌, arith}
-use Rattle.std.proofs.lemmas.Bool.{eqb-true, and_right}
-use Rattle.std.proofs.lemmas.List.{drop-drop, drop-set-lt, take-append-drop, length-take-le}
-use Rattle.std.proofs.lemmas.List.Filters.{FiltersInPlace, FiltersInPlace-more_set, FiltersInPlace-more_no}
+-- Entries that stay where others leave.
+use Rattle.std.proofs.Common.{◌≡◌, ℕ, ◌≤◌, Bool, false, not, List, [], ◌∷◌, length, get_or, take, sym, refl, arith}
+use Rattle.std.proofs.lemmas.Bool.{and_right}
+use Rattle.std.proofs.lemmas.Bool.Decides.{nat_tests}
+use Rattle.std.proofs.lemmas.List.{length-take}
+use Rattle.std.proofs.lemmas.List.Sums.{length-filter, count_by-le-length}
 use Rattle.frames.specs.declared.Entry.{Entry}
-use Rattle.frames.specs.Contents.{has, ids_of, Ascend}
-use Rattle.lists.specs.declared.Entries.{Entries}
-use Rattle.lists.specs.Tables.{held, holding, LeavesMarked, staying, KeepsAscending, Unflagged}
-use Rattle.lists.proofs.Holds.{tabled, is_holding}
-
--- an id that is the flagged one (t) is flagged (f)
-gone_id : (t f h : Bool) → (t ≡ true → f ≡ true) → (not f && h) ≡ (not f && (t || h))
-gone_id true f h q = let e = q refl in rw e
-gone_id false f h q = refl
-
-kept_id : (t f h : Bool) → (t ≡ true → f ≡ false) → (t || (not f && h)) ≡ (not f && (t || h))
-kept_id true f h q = let e = q refl in rw e
-kept_id false f h q = refl
-
--- what is kept so far, with all from there on as it was
-pub record Moving {X : Type 0} (p : X → Bool) (xs ys : List X) (k i : ℕ) : Type 0 where
-  pub keeping : FiltersInPlace p xs ys k i
-  pub beyond : drop k ys ≡ drop k xs
-
-module _ {X : Type 0} {p : X → Bool} {xs ys : List X} {k i : ℕ} {x : X} (m : Moving p xs ys k i) (h : i < length ys) (is : x ≡ get_or ys i x) where
-  pub moving_no : p x ≡ false → Moving p xs ys k (i + 1)
-  moving_no q = record { keeping = FiltersInPlace-more_no m.keeping h q is; beyond = m.beyond }
-
-  pub moving_yes : p x ≡ true → Moving p xs (set ys k x) (k + 1) (i + 1)
-  moving_yes q =
-      record {
-        keeping = FiltersInPlace-more_set m.keeping h q is;
-        beyond = drop-set-lt (k + 1) ys k x (omega arith) ∙ sym (drop-drop 1 k ys) ∙ ap (drop 1) m.beyond ∙ drop-drop 1 k xs;
-      }
-
-module _ {X : Type 0} {p : X → Bool} {xs ys : List X} {k i : ℕ} (m : Moving p xs ys k i) where
-  pub moved_all : ys ≡ filter p (take i xs) ++ drop k xs
-  moved_all =
-      let whole = take-append-drop k ys in
-      let front = m.keeping.front in
-      let back = m.beyond in
-      cc
-
-  pub moved_count : k ≡ length (filter p (take i xs))
-  moved_count =
-      let b = m.keeping.behind in
-      let w = m.keeping.within in
-      let l = m.keeping.long in
-      sym (length-take-le k ys (omega arith)) ∙ ap length m.keeping.front
+use Rattle.frames.specs.Contents.{ids_of, Ascend}
+use Rattle.lists.specs.Tables.{LeavesMarked, staying, KeepsAscending, Unflagged}
 
 -- What stays
 
-pub staying_ids : (flags : List Bool) (es : List Entry) → Unflagged flags es (staying flags es)
+staying_ids : (flags : List Bool) (es : List Entry) → Unflagged flags es (staying flags es)
 staying_ids flags [] i = sym (and_right (not (get_or flags i false)) false refl)
-staying_ids flags (x ∷ xs) i =
-    let rest = staying_ids flags xs i in
-    let step : (b : Bool) → get_or flags x.id false ≡ b → has i (ids_of (cond (not b) (x ∷ staying flags xs) (staying flags xs))) ≡ (not (get_or flags i false) && has i (ids_of (x ∷ xs))) =
-    λ b. elim b as (λ b. get_or flags x.id false ≡ b → has i (ids_of (cond (not b) (x ∷ staying flags xs) (staying flags xs))) ≡ (not (get_or flags i false) && has i (ids_of (x ∷ xs)))) [
-      | true ↦ λ q. rest ∙ gone_id (eqb i x.id) (get_or flags i false) (has i (ids_of xs)) (λ e. ap (λ n. get_or flags n false) (eqb-true _ _ e) ∙ q)
-      | false ↦ λ q. ap (λ h. eqb i x.id || h) rest ∙ kept_id (eqb i x.id) (get_or flags i false) (has i (ids_of xs)) (λ e. ap (λ n. get_or flags n false) (eqb-true _ _ e) ∙ q)
-    ] in
-    step _ refl
+staying_ids flags (x ∷ xs) i = let rest = staying_ids flags xs i in grind (arith, nat_tests)
 
 -- what ascends above an id ascends above a smaller one
 lower : (a b : ℕ) (is : List ℕ) → a ≤ b → Ascend b is → Ascend a is
 lower a b [] le asc = asc
 lower a b (i ∷ is) le asc = (omega (arith, asc.0), asc.1)
 
-pub staying_ascends : (flags : List Bool) (es : List Entry) → KeepsAscending es (staying flags es)
+staying_ascends : (flags : List Bool) (es : List Entry) → KeepsAscending es (staying flags es)
 staying_ascends flags [] last asc = asc
 staying_ascends flags (x ∷ xs) last asc =
     let rest = staying_ascends flags xs x.id asc.1 in
-    elim (get_or flags x.id false) as (λ b. Ascend last (ids_of (cond (not b) (x ∷ staying flags xs) (staying flags xs))))
-    [ true ↦ lower last x.id _ (omega (arith, asc.0)) rest | false ↦ (asc.0, rest) ]
+    let less = lower last x.id (ids_of (staying flags xs)) (omega (arith, asc.0)) rest in
+    grind (arith, nat_tests)
 
 -- flags that mark ids keep what those ids keep
-pub leaves_marked : (flags : List Bool) (es : List Entry) → LeavesMarked flags es (staying flags es)
+leaves_marked : (flags : List Bool) (es : List Entry) → LeavesMarked flags es (staying flags es)
 leaves_marked flags [] ids marks small = refl
 leaves_marked flags (x ∷ xs) ids marks small =
     let here = marks x.id small.0 in
     let rest = leaves_marked flags xs ids marks small.1 in
     cc
 
-pub stayed_items : (flags : List Bool) (t : Entries) (k : ℕ) (items : List Entry) → k ≡ length (staying flags (held t)) →
-    items ≡ staying flags (held t) ++ drop k t.items → tabled items k ≡ holding (staying flags (held t)) t
-stayed_items flags t k items n is =
-    is_holding (staying flags (held t)) t items k (is ∙ ap (λ j. staying flags (held t) ++ drop j t.items) n) n
+-- the same of a list that is known to be the one of those that stay
+
+module _ (flags : List Bool) (es es' : List Entry) (is : es' ≡ staying flags es) where
+  pub ids_left : Unflagged flags es es'
+  ids_left = rw is (staying_ids flags es)
+
+  pub ascends_left : KeepsAscending es es'
+  ascends_left = rw is (staying_ascends flags es)
+
+  pub marked_left : LeavesMarked flags es es'
+  marked_left = rw is (leaves_marked flags es)
+
+-- no more stay than there were
+pub few_stay : (flags : List Bool) (es : List Entry) (k : ℕ) → length (staying flags (take k es)) ≤ k
+few_stay flags es k =
+    let p : Entry → Bool = λ (e : Entry). not (get_or flags e.id false) in
+    omega (arith, length-filter p (take k es), count_by-le-length p (take k es), length-take k es)

@@ -1,21 +1,19 @@
 ghost use Rattle.std.specs.Prelude.{◌≡◌, Decides};
+ghost use Rattle.std.proofs.Common.{rules};
+ghost use Rattle.std.proofs.lemmas.Bool.Decides.{Decides-eqb};
+ghost use Rattle.std.proofs.lemmas.Slice.Eq.{slice_eq-Decides};
 
 use frames::Entry;
 
-/// An exact equality: whether two values are the same.
-pub trait Exact {
-    fn same(&self, other: &Self) -> bool
-        ensures { Decides result (self.now ≡ other.now) };
+/// A type whose equality is exact: two values are equal just where they are the same.
+pub trait Exact: PartialEq {
+    ghost exact: { (a b : Self) → Decides (Self.eq a b) (a ≡ b) };
 }
 
 impl Exact for u8 {
-    fn same(&self, other: &u8) -> bool {
-        *self == *other
-    }
+    ghost exact = { Prim.search (rules, Decides-eqb) };
 }
 
 impl Exact for Entry {
-    fn same(&self, other: &Entry) -> bool {
-        self.id == other.id && self.body == other.body
-    }
+    ghost exact = { Prim.search (rules, slice_eq-Decides Decides-eqb) };
 }

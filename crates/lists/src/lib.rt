@@ -1,14 +1,15 @@
 #![tactic(auto)]
 
-ghost use Rattle.std.specs.Prelude.{◌≡◌, ℕ, ◌+◌, ◌<◌, ◌≤◌, true, ◌||◌, [], ◌∷◌, ◌++◌, length, take, drop, if◌then◌else◌, Decides, ◌==◌, nat_le, nat_lt};
+ghost use Rattle.std.specs.Prelude.{◌≡◌, ℕ, true, ◌+◌, ◌-◌, ◌<◌, ◌≤◌, ◌||◌, [], ◌∷◌, ◌++◌, length, take, drop, insert, if◌then◌else◌, is_ok, OnOk, Decides, ◌==◌, nat_le, nat_lt};
 ghost use Rattle.frames.specs.Contents.{has, ids_of};
+ghost use Rattle.frames.specs.Ids.{Holds};
 ghost use Rattle.history.specs.Histories.{Begins};
-ghost use Rattle.lists.specs.Tables.{room, held, holding, empty, inserted, with_entry, with_part, without, staying, AscendsStill, KeepsAscending, Unflagged, Marks, LeavesMarked};
+ghost use Rattle.lists.specs.Tables.{room, held, holding, empty, inserted, with_entry, with_part, without, staying, AscendsStill, KeepsAscending, Unflagged, LeavesMarked};
 
 mod exact;
 
 pub use exact::Exact;
-use frames::Entry;
+use frames::{Entry, IdSet};
 
 /// How many entries a table holds at most: fifteen for each of seven boxes.
 pub const ENTRIES: usize = 105;
@@ -17,19 +18,16 @@ pub const ENTRIES: usize = 105;
 pub fn begins<T: Exact>(short: &[T], long: &[T]) -> bool
     ensures { Decides result (Begins short.now long.now) }
 {
-    if long.len() < short.len() {
-        return false;
-    }
-    for i in 0..short.len() {
-        if !short[i].same(&long[i]) {
-            return false;
-        }
-    }
-    true
+    long.starts_with(short)
 }
 
-/// A fixed table: it holds the first `count` of its items. It is plain and may hold anything.
-#[derive(Clone, Copy)]
+/// A table that would hold more entries than it has room for.
+#[derive(Clone, Copy, Debug, PartialEq, Eq)]
+pub struct TableFull;
+
+/// A fixed table: it holds the first `count` of its items. It is a plain value with public fields, which may hold anything:
+/// whether the count fits is tested, not kept.
+#[derive(Clone, Copy, Debug, PartialEq, Eq)]
 pub struct Entries {
     pub items: [Entry; ENTRIES],
     pub count: u8,
@@ -62,100 +60,97 @@ impl Entries {
         ensures { result.now ≡ held self.now }
     {
         let n = self.count as usize;
-        if n < ENTRIES {
-            &self.items[..n]
-        } else {
-            &self.items
-        }
+        self.items.get(..n).unwrap_or(&self.items)
     }
 
     /// Whether an entry of this id is held.
     pub fn has_id(&self, id: u8) -> bool
         ensures { result ≡ has id (ids_of (held self.now)) }
     {
-        let entries = self.part();
-        for e in entries {
-            if id == e.id {
-                return true;
-            }
-        }
-        false
+        self.part().iter().any(|e| id == e.id)
     }
 
-    /// The flag of each id that is held.
-    pub fn ids(&self) -> [bool; 256]
-        ensures { Marks result (ids_of (held self.now)) }
+    /// The ids that are held.
+    pub fn ids(&self) -> IdSet
+        ensures { Holds result (ids_of (held self.now)) }
     {
-        let entries = self.part();
-        let mut flags = [false; 256];
-        for e in entries {
-            flags[e.id as usize] = true;
+        let mut ids = IdSet::new();
+        for e in self.part() {
+            ids.add(e.id);
         }
-        flags
+        ids
     }
 
-    /// Puts `e` before the first entry with a greater id. A full table refuses.
-    pub fn insert(&mut self, e: Entry) -> bool
-        ensures answer { result ≡ nat_lt self.old.count room }
-        ensures table { self.new ≡ (if result then with_entry e self.old else self.old) }
-        ensures meaning { held self.new ≡ (if result then inserted e (held self.old) else held self.old) }
+    /// Puts `e` before the first entry with a greater id.
+    pub fn insert(&mut self, e: Entry) -> Result<(), TableFull>
+        ensures answer { is_ok result ≡ nat_lt self.old.count room }
+        ensures table { self.new ≡ (if is_ok result then with_entry e self.old else self.old) }
+        ensures meaning { held self.new ≡ (if is_ok result then inserted e (held self.old) else held self.old) }
         ensures ascends { AscendsStill e (held self.old) (held self.new) }
-        ensures ids { result ≡ true → (i : ℕ) → has i (ids_of (held self.new)) ≡ (i == e.id || has i (ids_of (held self.old))) }
+        ensures ids { OnOk result ((i : ℕ) → has i (ids_of (held self.new)) ≡ (i == e.id || has i (ids_of (held self.old)))) }
+        ensures room { self.old.count ≤ room → length (held self.old) < room → is_ok result ≡ true }
     {
         let count = self.count as usize;
         if count >= ENTRIES {
-            return false;
+            return Err(TableFull);
         }
         let place = place_of(self.part(), e);
-        insert_at(&mut self.items, count, place, e);
+        insert_at(&mut self.items[..count + 1], place, e);
         self.count += 1;
-        true
+        Ok(())
     }
 
-    /// The entries with a flagged id leave, and the others stay in their order. A table whose count does not fit stays.
-    pub fn leave(&mut self, gone: &[bool; 256])
-        ensures table { self.new ≡ without gone.now self.old }
-        ensures meaning { self.old.count ≤ room → held self.new ≡ staying gone.now (held self.old) }
+    /// The entries whose ids are gone leave, and the others stay in their order. A table whose count does not fit stays.
+    pub fn leave(&mut self, gone: &IdSet)
+        ensures table { self.new ≡ without gone.now.flags self.old }
+        ensures meaning { self.old.count ≤ room → held self.new ≡ staying gone.now.flags (held self.old) }
         ensures ascends { KeepsAscending (held self.old) (held self.new) }
-        ensures ids { self.old.count ≤ room → Unflagged gone.now (held self.old) (held self.new) }
-        ensures marked { self.old.count ≤ room → LeavesMarked gone.now (held self.old) (held self.new) }
+        ensures ids { self.old.count ≤ room → Unflagged gone.now.flags (held self.old) (held self.new) }
+        ensures marked { self.old.count ≤ room → LeavesMarked gone.now.flags (held self.old) (held self.new) }
     {
         if !self.fits() {
             return;
         }
-        let kept = keep_unflagged(&mut self.items, self.count as usize, gone);
-        self.count = kept as u8;
+        let before = *self;
+        self.count = 0;
+        for e in before.part() {
+            if !gone.has(e.id) {
+                // no more stay than were held, so there is room
+                self.extend(&[*e]).unwrap();
+            }
+        }
     }
 
-    /// Holds `part` in place of what it held. More than fits is refused.
-    pub fn copy_from(&mut self, part: &[Entry]) -> bool
-        ensures answer { result ≡ nat_le (length part.now) room }
-        ensures table { self.new ≡ (if result then holding part.now self.old else self.old) }
-        ensures meaning { held self.new ≡ (if result then part.now else held self.old) }
+    /// Holds `part` in place of what it held.
+    pub fn copy_from(&mut self, part: &[Entry]) -> Result<(), TableFull>
+        ensures answer { is_ok result ≡ nat_le (length part.now) room }
+        ensures table { self.new ≡ (if is_ok result then holding part.now self.old else self.old) }
+        ensures meaning { held self.new ≡ (if is_ok result then part.now else held self.old) }
     {
         let n = part.len();
         if n > ENTRIES {
-            return false;
+            return Err(TableFull);
         }
-        self.items[0..n].copy_from_slice(part);
+        self.items[..n].copy_from_slice(part);
         self.count = n as u8;
-        true
+        Ok(())
     }
 
-    /// Holds `part` after what it held. More than fits is refused.
-    pub fn extend(&mut self, part: &[Entry]) -> bool
-        ensures answer { result ≡ nat_le (self.old.count + length part.now) room }
-        ensures table { self.new ≡ (if result then with_part part.now self.old else self.old) }
-        ensures meaning { held self.new ≡ (if result then held self.old ++ part.now else held self.old) }
+    /// Holds `part` after what it held.
+    pub fn extend(&mut self, part: &[Entry]) -> Result<(), TableFull>
+        ensures answer { is_ok result ≡ nat_le (self.old.count + length part.now) room }
+        ensures table { self.new ≡ (if is_ok result then with_part part.now self.old else self.old) }
+        ensures meaning { held self.new ≡ (if is_ok result then held self.old ++ part.now else held self.old) }
+        ensures room { self.old.count ≤ room → length (held self.old) + length part.now ≤ room → is_ok result ≡ true }
     {
         let count = self.count as usize;
-        let n = part.len();
-        if count > ENTRIES || n > ENTRIES - count {
-            return false;
+        let end = count + part.len();
+        if end > ENTRIES {
+            return Err(TableFull);
         }
-        self.items[count..count + n].copy_from_slice(part);
-        self.count = (count + n) as u8;
-        true
+        self.items[count..end].copy_from_slice(part);
+        self.count = end as u8;
+        Ok(())
     }
 }
 
@@ -164,37 +159,17 @@ fn place_of(entries: &[Entry], e: Entry) -> usize
     ensures within { result ≤ length entries.now }
     ensures place { inserted e entries.now ≡ take result entries.now ++ e ∷ drop result entries.now }
 {
-    let mut i = 0;
-    while i < entries.len() && entries[i].id <= e.id {
-        i += 1;
-    }
-    i
+    entries
+        .iter()
+        .position(|x| e.id < x.id)
+        .unwrap_or(entries.len())
 }
 
-/// Puts `e` at `place` of the first `count` items, of which the later ones move up by one.
-fn insert_at(items: &mut [Entry], count: usize, place: usize, e: Entry)
-    requires { (count < length items.old) × (place ≤ count) }
-    ensures { items.new ≡ (take place (take count items.old) ++ e ∷ drop place (take count items.old)) ++ drop (count + 1) items.old }
+/// Puts `e` at `place`: the later ones move up by one, and the last one falls out.
+fn insert_at(items: &mut [Entry], place: usize, e: Entry)
+    requires { place < length items.old }
+    ensures { items.new ≡ insert (take (length items.old - 1) items.old) place e }
 {
-    items[count] = e;
-    let moved = &mut items[place..count + 1];
-    moved.rotate_right(1);
-}
-
-/// Moves the first `count` items with no flag to the front, and answers how many they are.
-fn keep_unflagged(items: &mut [Entry], count: usize, gone: &[bool]) -> usize
-    requires { (count ≤ length items.old) × (length gone.now ≡ 256) }
-    ensures kept { result ≡ length (staying gone.now (take count items.old)) }
-    ensures within { result ≤ count }
-    ensures after { items.new ≡ staying gone.now (take count items.old) ++ drop result items.old }
-{
-    let mut place = 0;
-    for i in 0..count {
-        let e = items[i];
-        if !gone[e.id as usize] {
-            items[place] = e;
-            place += 1;
-        }
-    }
-    place
+    items[place..].rotate_right(1);
+    items[place] = e;
 }

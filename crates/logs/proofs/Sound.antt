@@ -1,10 +1,9 @@
 -- What it gives that a log adds up, and what an appended decision leaves of it.
-use Rattle.std.proofs.Common.{◌≡◌, ◌+◌, ◌<◌, ◌≤◌, Bool, true, leb, List, [], ◌∷◌, ◌++◌, length, set, Decides, sum, sym, refl, ap, ◌∙◌, ap₂, arith}
+use Rattle.std.proofs.Common.{◌≡◌, ◌+◌, ◌<◌, ◌≤◌, Bool, true, leb, List, [], ◌∷◌, ◌++◌, length, set, Decides, sum, refl, ap, ◌∙◌, ap₂, arith}
 use Rattle.std.specs.List.{flat_map}
-use Rattle.std.proofs.lemmas.Bool.{leb-true, eqb-true, le-leb, lt-ltb, eq-eqb, and_parts}
+use Rattle.std.proofs.lemmas.Bool.{leb-true, eqb-true, le-leb, lt-ltb, and_parts}
 use Rattle.std.proofs.lemmas.Bool.Decides.{Decides-like}
-use Rattle.std.proofs.lemmas.List.{map-append, length-append, length-take, take_all, take_more_set}
-use Rattle.std.proofs.lemmas.List.Sums.{sum_by_push}
+use Rattle.std.proofs.lemmas.List.{map-append, take_all, take_more_set}
 use Rattle.frames.specs.declared.Entry.{Entry}
 use Rattle.frames.specs.Contents.{ids_of, parted}
 use Rattle.lists.specs.declared.Entries.{Entries}
@@ -24,12 +23,6 @@ sound l q =
     let first = and_parts (leb l.entries.count 105) _ q in
     let second = and_parts (leb l.decided 105) _ first.1 in
     record { entries_fit = leb-true _ _ first.0; decisions_fit = leb-true _ _ second.0; add_up = eqb-true _ _ second.1 }
-
-pub sound_test : (l : Log) → Sound l → adds_up l ≡ true
-sound_test l s =
-    let a = le-leb l.entries.count 105 s.entries_fit in
-    let b = le-leb l.decided 105 s.decisions_fit in
-    rw (a, b) (eq-eqb _ _ s.add_up)
 
 pub log-ids : (l : Log) → adds_up l ≡ true → flat_map ids_of (log_of l) ≡ ids_of (held l.entries)
 log-ids l q = parted_joined ids_of refl (map-append (λ (e : Entry). e.id)) (lengths_of l) (held l.entries) (sound l q).add_up
@@ -66,15 +59,3 @@ module _ (l : Log) (d : List Entry) where
     log_after q =
         ap₂ parted lengths_after entries_after ∙ parted_append (lengths_of l) (length d ∷ []) (held l.entries) d (sound l q).add_up
         ∙ ap (λ x. log_of l ++ x ∷ []) (take_all (length d) d (omega arith))
-
-    pub sound_after : adds_up l ≡ true → l.decided < 105 → l.entries.count + length d ≤ 105 → adds_up (appended d l) ≡ true
-    sound_after q a c =
-        let s = sound l q in
-        let whole = length-append (held l.entries) d in
-        let front = length-take l.entries.count l.entries.items in
-        let adds = ap sum lengths_after ∙ sum_by_push (λ x. x) (lengths_of l) (length d) in
-        sound_test (appended d l) (record {
-          entries_fit = omega arith;
-          decisions_fit = omega arith;
-          add_up = adds ∙ ap (λ n. n + length d) s.add_up ∙ sym whole ∙ ap length (sym entries_after);
-        })

@@ -1,10 +1,12 @@
 -- What a log holds: its decisions, one after the other in one table of entries.
-use Rattle.std.specs.Prelude.{ℕ, ◌+◌, Bool, cond, ◌&&◌, List, length, take, replicate, Some, None, sum, Option, ◌==◌, nat_le, nat_lt, slice_set}
+use Rattle.std.specs.Prelude.{◌≡◌, ℕ, ◌+◌, ◌<◌, ◌≤◌, ◌⊎◌, Bool, true, false, cond, ◌&&◌, List, length, take, replicate, Some, None, sum, Option, ◌==◌, nat_le, nat_lt, slice_set}
 use Rattle.std.specs.List.{between}
 use Rattle.frames.specs.declared.Entry.{Entry}
 use Rattle.frames.specs.Contents.{parted}
 use Rattle.history.specs.Histories.{Begins}
 use Rattle.lists.specs.Tables.{room, held, with_part, empty}
+use Rattle.logs.specs.declared.AppendFault.{AppendFault}
+use Rattle.logs.specs.declared.AppendFault.TheVariants as fault
 use Rattle.logs.specs.declared.Log.{Log}
 
 -- the lengths of the decisions
@@ -36,6 +38,12 @@ decision_at l k =
 abbrev pub takes : Log → List Entry → Bool
 takes l d =
     adds_up l && (nat_lt l.decided room && (nat_lt 0 (length d) && nat_le (l.entries.count + length d) room))
+
+-- why a log refuses a decision, and that none of the reasons before it holds
+abbrev pub Refuses : Log → List Entry → AppendFault → Type 0
+Refuses l d fault.Unsound = adds_up l ≡ false
+Refuses l d fault.Empty = (adds_up l ≡ true) × (length d ≡ 0)
+Refuses l d fault.Full = (adds_up l ≡ true) × (0 < length d) × ((room ≤ l.decided) ⊎ (room < l.entries.count + length d))
 
 -- the log with one decision more, its further items and lengths as they were
 abbrev pub appended : List Entry → Log → Log

@@ -1,2 +1,4 @@
 pub mod Walk
+pub mod Start
+pub mod Heads
 pub mod Whole

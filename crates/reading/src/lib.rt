@@ -1,14 +1,21 @@
 #![tactic(auto)]
 
-ghost use Rattle.std.specs.Prelude.{◌≡◌, ℕ, ◌+◌, ◌-◌, ◌*◌, ◌<◌, ◌≤◌, List, length, Err};
-ghost use Rattle.frames.specs.Contents.{Content};
-ghost use Rattle.frames.specs.declared.Cause.TheVariants as cause;
-ghost use Rattle.frames.specs.Reading.{entries_as, decisions_as, out_of_range, bad_round, bad_votes, bad_proposed, bad_decided, read_as, order_as, token_as, fault_at};
-ghost use Rattle.reading.specs.Walking.{Marks, Walked, Within, StartFault, HeadFault, rest_at};
+ghost use Rattle.std.specs.Prelude.{◌≡◌, ◌≤◌, length};
+ghost use Rattle.frames.specs.Reading.{out_of_range, bad_round, bad_votes, bad_proposed, bad_decided, read_as, order_as, token_as};
+ghost use Rattle.reading.specs.Walking.{Started, byte_as};
 ghost use Rattle.frames.specs.Laws.{OneWriting};
+ghost use Rattle.frames.specs.declared.Cause.TheVariants as cause;
 ghost use Rattle.frames.specs.Views.{viewed, shown_as, ShowsLawful};
 
-use frames::{Cause, Frame, FrameFault, Plan};
+use frames::{Cause, Frame, FrameFault, FrameKind, Plan};
+
+mod head;
+mod ids;
+mod reader;
+
+pub use head::Head;
+pub use ids::FrameIds;
+use reader::Reader;
 
 /// Reads a frame for a plan, from the front, up to the first byte at fault.
 /// What is read are lawful contents, and the bytes are just what those are written as: no other bytes read as them.
@@ -20,53 +27,50 @@ pub fn read<'a>(plan: &Plan, bytes: &'a [u8]) -> Result<Frame<'a>, FrameFault>
     read_kind(plan, bytes)
 }
 
+/// A fault of a frame, at a place.
+pub fn fault_at(place: usize, cause: Cause) -> FrameFault
+    ensures place { result.place ≡ place }
+    ensures cause { result.cause ≡ cause }
+{
+    FrameFault { place, cause }
+}
+
 /// Reads by the kind byte.
 fn read_kind<'a>(plan: &Plan, bytes: &'a [u8]) -> Result<Frame<'a>, FrameFault>
     ensures { viewed result ≡ shown_as (read_as plan.now bytes.now) }
 {
-    if let Some(fault) = start_fault(plan, bytes) {
-        return Err(fault);
-    }
-    if bytes[0] == 1 {
-        read_order(plan, bytes)
-    } else {
-        read_token(plan, bytes)
+    match read_start(plan, bytes)? {
+        FrameKind::Order => read_order(plan, bytes),
+        FrameKind::Token => read_token(plan, bytes),
     }
 }
 
-/// The fault of the kind byte or the plan byte, if there is one.
-fn start_fault(plan: &Plan, bytes: &[u8]) -> Option<FrameFault>
-    ensures { StartFault plan.now bytes.now result }
+/// The kind of a frame, whose second byte is the plan's.
+fn read_start(plan: &Plan, bytes: &[u8]) -> Result<FrameKind, FrameFault>
+    ensures { Started plan.now bytes.now result }
 {
-    if bytes.len() < 1 {
-        return Some(ends_early(bytes));
+    let kind_byte = byte_at(bytes, 0)?;
+    let kind = FrameKind::try_from(kind_byte).map_err(|cause| fault_at(0, cause))?;
+    let plan_byte = byte_at(bytes, 1)?;
+    if plan_byte != plan.byte() {
+        return Err(fault_at(1, Cause::Plan));
     }
-    if bytes[0] != 1 && bytes[0] != 2 {
-        return Some(FrameFault {
-            place: 0,
-            cause: Cause::Kind,
-        });
-    }
-    if bytes.len() < 2 {
-        return Some(ends_early(bytes));
-    }
-    if bytes[1] != plan.byte() {
-        return Some(FrameFault {
-            place: 1,
-            cause: Cause::Plan,
-        });
-    }
-    None
+    Ok(kind)
+}
+
+/// The byte at a place of a frame, which may end before.
+fn byte_at(bytes: &[u8], place: usize) -> Result<u8, FrameFault>
+    ensures { result ≡ byte_as bytes.now place }
+{
+    bytes.get(place).copied().ok_or(ends_early(bytes))
 }
 
 /// The fault of a frame that ends before a byte that is wanted.
 fn ends_early(bytes: &[u8]) -> FrameFault
-    ensures { Err result ≡ fault_at {A = Content} (length bytes.now) cause.Length }
+    ensures place { result.place ≡ length bytes.now }
+    ensures cause { result.cause ≡ cause.Length }
 {
-    FrameFault {
-        place: bytes.len(),
-        cause: Cause::Length,
-    }
+    fault_at(bytes.len(), Cause::Length)
 }
 
 /// Reads an order frame whose kind and plan byte are right.
@@ -74,14 +78,9 @@ fn read_order<'a>(plan: &Plan, bytes: &'a [u8]) -> Result<Frame<'a>, FrameFault>
     requires { 2 ≤ length bytes.now }
     ensures { viewed result ≡ shown_as (order_as plan.now bytes.now) }
 {
-    let mut seen = [false; 256];
-    let end = entries_end(plan, bytes, 2, 1, &mut seen)?;
-    if end < bytes.len() {
-        return Err(FrameFault {
-            place: end,
-            cause: Cause::Length,
-        });
-    }
+    let mut reader = Reader::new(plan, bytes, 2);
+    reader.entries(1)?;
+    reader.end()?;
     Ok(Frame::Order { entry: &bytes[2..] })
 }
 
@@ -89,9 +88,7 @@ fn read_order<'a>(plan: &Plan, bytes: &'a [u8]) -> Result<Frame<'a>, FrameFault>
 fn read_token<'a>(plan: &Plan, bytes: &'a [u8]) -> Result<Frame<'a>, FrameFault>
     ensures { viewed result ≡ shown_as (token_as plan.now bytes.now) }
 {
-    if let Some(fault) = head_fault(plan, bytes) {
-        return Err(fault);
-    }
+    Head::of(bytes).test(plan, bytes.len())?;
     let [
         kind,
         plan_byte,
@@ -109,15 +106,11 @@ fn read_token<'a>(plan: &Plan, bytes: &'a [u8]) -> Result<Frame<'a>, FrameFault>
         return Err(ends_early(bytes));
     };
     let stamp = u32::from_be_bytes([*r3, *r2, *r1, *r0]);
-    let mut seen = [false; 256];
-    let middle = entries_end(plan, bytes, 10, *proposed, &mut seen)?;
-    let end = decisions_end(plan, bytes, middle, *decided, &mut seen)?;
-    if end < bytes.len() {
-        return Err(FrameFault {
-            place: end,
-            cause: Cause::Length,
-        });
-    }
+    let mut reader = Reader::new(plan, bytes, 10);
+    reader.entries(*proposed)?;
+    let middle = reader.at;
+    reader.decisions(*decided)?;
+    reader.end()?;
     let (proposal, decisions) = rest.split_at(middle - 10);
     Ok(Frame::Token {
         sender: *sender,
@@ -127,85 +120,6 @@ fn read_token<'a>(plan: &Plan, bytes: &'a [u8]) -> Result<Frame<'a>, FrameFault>
         decided: *decided,
         decisions,
     })
-}
-
-/// Reads `count` entries from `from` on, and answers where they end.
-fn entries_end(
-    plan: &Plan,
-    bytes: &[u8],
-    from: usize,
-    count: u8,
-    seen: &mut [bool; 256],
-) -> Result<usize, FrameFault>
-    requires { from ≤ length bytes.now }
-    ensures within { Within from bytes.now result }
-    ensures walked { (met : List ℕ) → Marks seen.old met → Walked (entries_as plan.now count 0 (rest_at from bytes.now met)) result seen.new }
-{
-    let mut at = from;
-    let mut last = 0;
-    for k in 0..count {
-        if bytes.len() == at {
-            return Err(FrameFault {
-                place: at,
-                cause: Cause::Length,
-            });
-        }
-        let id = bytes[at];
-        if out_of_range(plan, id) {
-            return Err(FrameFault {
-                place: at,
-                cause: Cause::Range,
-            });
-        }
-        if id <= last || seen[id as usize] {
-            return Err(FrameFault {
-                place: at,
-                cause: Cause::Ids,
-            });
-        }
-        if bytes.len() - at < 9 {
-            return Err(FrameFault {
-                place: bytes.len(),
-                cause: Cause::Length,
-            });
-        }
-        seen[id as usize] = true;
-        last = id;
-        at += 9;
-    }
-    Ok(at)
-}
-
-/// Reads `count` decisions from `from` on, and answers where they end.
-fn decisions_end(
-    plan: &Plan,
-    bytes: &[u8],
-    from: usize,
-    count: u8,
-    seen: &mut [bool; 256],
-) -> Result<usize, FrameFault>
-    requires { from ≤ length bytes.now }
-    ensures within { Within from bytes.now result }
-    ensures walked { (met : List ℕ) → Marks seen.old met → Walked (decisions_as plan.now count (rest_at from bytes.now met)) result seen.new }
-{
-    let mut at = from;
-    for k in 0..count {
-        if bytes.len() == at {
-            return Err(FrameFault {
-                place: at,
-                cause: Cause::Length,
-            });
-        }
-        let size = bytes[at];
-        if size == 0 {
-            return Err(FrameFault {
-                place: at,
-                cause: Cause::Range,
-            });
-        }
-        at = entries_end(plan, bytes, at + 1, size, seen)?;
-    }
-    Ok(at)
 }
 
 /// Whether a token's round, told by its stamp, is out of range or not one of this sender's.
@@ -253,57 +167,4 @@ pub fn out_of_range(plan: &Plan, id: u8) -> bool
     ensures { result ≡ out_of_range plan.now id }
 {
     id / 16 >= plan.boxes() || id % 16 == 0
-}
-
-/// The fault of a token's head after its plan byte, if there is one.
-fn head_fault(plan: &Plan, bytes: &[u8]) -> Option<FrameFault>
-    ensures { HeadFault plan.now bytes.now result }
-{
-    if bytes.len() < 3 {
-        return Some(ends_early(bytes));
-    }
-    if bytes[2] >= plan.boxes() {
-        return Some(FrameFault {
-            place: 2,
-            cause: Cause::Range,
-        });
-    }
-    if bytes.len() < 7 {
-        return Some(ends_early(bytes));
-    }
-    let stamp = u32::from_be_bytes([bytes[3], bytes[4], bytes[5], bytes[6]]);
-    if bad_round(plan, bytes[2], stamp) {
-        return Some(FrameFault {
-            place: 3,
-            cause: Cause::Range,
-        });
-    }
-    if bytes.len() < 8 {
-        return Some(ends_early(bytes));
-    }
-    if bad_votes(plan, stamp, bytes[7]) {
-        return Some(FrameFault {
-            place: 7,
-            cause: Cause::Range,
-        });
-    }
-    if bytes.len() < 9 {
-        return Some(ends_early(bytes));
-    }
-    if bad_proposed(stamp, bytes[7], bytes[8] as usize) {
-        return Some(FrameFault {
-            place: 8,
-            cause: Cause::Range,
-        });
-    }
-    if bytes.len() < 10 {
-        return Some(ends_early(bytes));
-    }
-    if bad_decided(stamp, bytes[9] as usize) {
-        return Some(FrameFault {
-            place: 9,
-            cause: Cause::Range,
-        });
-    }
-    None
 }

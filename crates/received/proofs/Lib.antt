@@ -1,3 +1,2 @@
-mod Tabling
 mod Logging
-mod Contents
+pub mod Contents

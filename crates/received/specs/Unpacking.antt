@@ -1,8 +1,8 @@
--- What comes out of the bytes of entries and of decisions.
-use Rattle.std.specs.Prelude.{◌≡◌, ℕ, ◌<◌, ◌≤◌, true, List, length}
+-- What entries and decisions come to in tables.
+use Rattle.std.specs.Prelude.{◌≡◌, ◌<◌, ◌≤◌, true, List, length}
 use Rattle.std.specs.List.{flat_map, AllByRecursion}
 use Rattle.frames.specs.declared.Entry.{Entry}
-use Rattle.frames.specs.Contents.{Whole, entry_bytes, decision_bytes, ids_of}
+use Rattle.frames.specs.Contents.{ids_of}
 use Rattle.lists.specs.declared.Entries.{Entries}
 use Rattle.lists.specs.Tables.{room, held}
 use Rattle.logs.specs.declared.Log.{Log}
@@ -13,10 +13,6 @@ pub record Tabled (es : List Entry) (t : Entries) : Type 0 where
   pub entries : held t ≡ es
   pub counted : t.count ≡ length es
 
--- out of the bytes of entries that a table has room for come those entries
-abbrev pub EntriesOut : List ℕ → Entries → Type 0
-EntriesOut bs t = (es : List Entry) → AllByRecursion Whole es → bs ≡ flat_map entry_bytes es → length es ≤ room → Tabled es t
-
 -- the log has just these decisions, and adds up
 pub record Logged (ds : List (List Entry)) (l : Log) : Type 0 where
   pub decisions : log_of l ≡ ds
@@ -24,10 +20,5 @@ pub record Logged (ds : List (List Entry)) (l : Log) : Type 0 where
 
 -- decisions that a log takes: none is empty, and there is room for the entries of all
 pub record Loggable (ds : List (List Entry)) : Type 0 where
-  pub whole : AllByRecursion (AllByRecursion Whole) ds
   pub some : AllByRecursion (λ (d : List Entry). 0 < length d) ds
   pub few : length (flat_map ids_of ds) ≤ room
-
--- out of the bytes of such decisions come those decisions
-abbrev pub DecisionsOut : List ℕ → Log → Type 0
-DecisionsOut bs l = (ds : List (List Entry)) → Loggable ds → bs ≡ flat_map decision_bytes ds → Logged ds l

@@ -2,19 +2,20 @@
 
 #![tactic(auto)]
 
-ghost use Rattle.std.specs.Prelude.{◌≡◌};
+ghost use Rattle.std.specs.Prelude.{◌≡◌, ◌≤◌, length, IsOk, IfOk};
 ghost use Rattle.frames.specs.Reading.{read_as};
+ghost use Rattle.lists.specs.Tables.{room};
 ghost use Rattle.received.specs.Received.{contents_in, HoldsLawful};
-ghost use Rattle.received.specs.Unpacking.{EntriesOut, DecisionsOut};
+ghost use Rattle.received.specs.Unpacking.{Tabled, Logged, Loggable};
 
 use frames::{Entry, Frame, FrameFault, Plan};
-use lists::Entries;
-use logs::Log;
-use parts::{entry_at, entry_count, first_decision};
+use lists::{Entries, TableFull};
+use logs::{AppendFault, Log};
+use parts::{DecisionsIn, EntriesIn, entry_at};
 use reading::read;
 
 /// A token out of its frame, its lists in tables.
-#[derive(Clone, Copy)]
+#[derive(Clone, Copy, Debug, PartialEq, Eq)]
 pub struct ReceivedToken {
     pub sender: u8,
     pub stamp: u32,
@@ -24,7 +25,7 @@ pub struct ReceivedToken {
 }
 
 /// The contents of a frame.
-#[derive(Clone, Copy)]
+#[derive(Clone, Copy, Debug, PartialEq, Eq)]
 pub enum Received {
     Order(Entry),
     Token(ReceivedToken),
@@ -35,8 +36,8 @@ pub fn receive(plan: &Plan, bytes: &[u8]) -> Result<Received, FrameFault>
     ensures contents { contents_in result ≡ read_as plan.now bytes.now }
     ensures lawful { HoldsLawful plan.now result }
 {
-    match read(plan, bytes)? {
-        Frame::Order { entry } => Ok(Received::Order(entry_at(entry, 0).unwrap())),
+    Ok(match read(plan, bytes)? {
+        Frame::Order { entry } => Received::Order(entry_at(entry, 0).unwrap()),
         Frame::Token {
             sender,
             stamp,
@@ -44,39 +45,37 @@ pub fn receive(plan: &Plan, bytes: &[u8]) -> Result<Received, FrameFault>
             proposal,
             decisions,
             ..
-        } => Ok(Received::Token(ReceivedToken {
+        } => Received::Token(ReceivedToken {
             sender,
             stamp,
             votes,
-            proposal: unpack_entries(proposal),
-            log: unpack_decisions(decisions),
-        })),
-    }
+            // the tables have room for all that a frame holds
+            proposal: unpack_entries(EntriesIn::new(proposal)).unwrap(),
+            log: unpack_decisions(DecisionsIn::new(decisions)).unwrap(),
+        }),
+    })
 }
 
-/// The table of the entries in the bytes of entries; those of a frame that was read all fit.
-fn unpack_entries(part: &[u8]) -> Entries
-    ensures { EntriesOut part.now result }
+/// The table of the entries, if it has room for them.
+fn unpack_entries(entries: EntriesIn<'_>) -> Result<Entries, TableFull>
+    ensures table { IfOk result (Tabled entries.entry) }
+    ensures fits { length entries.entry ≤ room → IsOk result }
 {
     let mut table = Entries::new();
-    for i in 0..entry_count(part) {
-        if let Some(entry) = entry_at(part, i) {
-            table.extend(&[entry]);
-        }
+    for entry in entries {
+        table.extend(&[entry])?;
     }
-    table
+    Ok(table)
 }
 
-/// The log of the decisions in the bytes of decisions; those of a frame that was read all fit.
-fn unpack_decisions(decisions: &[u8]) -> Log
-    ensures { DecisionsOut decisions.now result }
+/// The log of the decisions, if none is empty and it has room for them.
+fn unpack_decisions(decisions: DecisionsIn<'_>) -> Result<Log, AppendFault>
+    ensures log { IfOk result (Logged decisions.entry) }
+    ensures fits { Loggable decisions.entry → IsOk result }
 {
     let mut log = Log::new();
-    let mut left = decisions;
-    while let Some(split) = first_decision(left) {
-        let decision = unpack_entries(split.first);
-        log.append(decision.part());
-        left = split.rest;
+    for decision in decisions {
+        log.append(unpack_entries(decision)?.part())?;
     }
-    log
+    Ok(log)
 }

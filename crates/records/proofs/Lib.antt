@@ -1,3 +1,2 @@
 pub mod Drafts
-mod Uses
 pub mod Rules

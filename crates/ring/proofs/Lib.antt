@@ -1,3 +1,2 @@
-pub mod Staying
 pub mod Sending
 pub mod Writing

@@ -1,5 +1,5 @@
 -- What calls of a started box do to its record.
-use Rattle.std.specs.Prelude.{◌≡◌, ℕ, ◌+◌, ◌<◌, ◌≤◌, Bool, true, false, cond, List, length, take, Some, None, Ok, Err, Option, Result, nat_lt}
+use Rattle.std.specs.Prelude.{◌≡◌, ℕ, ◌+◌, ◌<◌, ◌≤◌, Bool, false, cond, List, length, take, Some, None, Ok, Err, Option, Result, nat_lt}
 use Rattle.frames.specs.declared.plan.Plan.{Plan}
 use Rattle.frames.specs.declared.Entry.{Entry}
 use Rattle.frames.specs.Contents.{frame_most, bytes_of}
@@ -13,10 +13,7 @@ use Rattle.boxes.specs.Turns.{next_id, next_entry}
 use Rattle.boxes.specs.Calls.{refused_or, send_fault}
 use Rattle.records.specs.declared.BoxRecord.{BoxRecord}
 use Rattle.records.specs.Records.{box_of, KeepsRules}
-
--- The value is what `f` says of whether the record keeps the rules of this plan and seat.
-abbrev pub JudgedRow : {X : Type 0} → Plan → ℕ → BoxRecord → (Bool → X) → X → Type 0
-JudgedRow p i r f x = (KeepsRules p i r → x ≡ f true) × ((KeepsRules p i r → ⊥) → x ≡ f false)
+pub use Rattle.records.specs.Records.{JudgedRow}
 
 -- The record as it was at a fault, or what it becomes if there is none.
 abbrev pub kept_row : Option BoxFault → (was becomes : BoxRecord) → BoxRecord

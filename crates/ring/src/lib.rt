@@ -2,12 +2,11 @@
 
 #![tactic(auto)]
 
-ghost use Rattle.std.specs.Prelude.{◌≡◌, ◌<◌, ◌≤◌, true, false, [], length, IfNone, if◌then◌else◌, nat_eq, nat_lt};
+ghost use Rattle.std.specs.Prelude.{◌≡◌, ◌<◌, ◌≤◌, true, false, [], length, OnOk, if◌then◌else◌, nat_eq, nat_lt};
 ghost use Rattle.frames.specs.Contents.{LawfulEntry, LawfulToken, frame_most, token_bytes, bytes_of};
 ghost use Rattle.frames.specs.Contents.Content.{order};
-ghost use Rattle.lists.specs.Tables.{room, held, with_entry};
 ghost use Rattle.boxes.specs.Turns.{started, next_entry, sending};
-ghost use Rattle.boxes.specs.Calls.{off_fault, state_call, stayed_or, at_front, written_or};
+ghost use Rattle.boxes.specs.Calls.{off_fault, state_call, refused_or, stayed_or, at_front, written_or};
 ghost use Rattle.records.specs.Records.{box_of, KeepsRules};
 ghost use Rattle.writing.specs.Parted.{a_token};
 ghost use Rattle.ring.specs.Seats.{Seated, StartedAs, StartsAs, TakenUp, started_row, opening_bytes};
@@ -17,7 +16,7 @@ use boxes::BoxFault;
 use frames::{Entry, FRAME_MAX, Plan};
 use lists::Entries;
 use logs::Log;
-use records::{BoxRecord, keeps_rules};
+use records::BoxRecord;
 use writing::{Draft, write_order, write_token};
 
 /// How many orders a box can give.
@@ -86,11 +85,8 @@ impl Seat {
     pub fn take_up(self, row: &BoxRecord) -> Result<StartedBox, (BoxFault, Seat)>
         ensures { TakenUp self row.now result }
     {
-        if !keeps_rules(&self.plan, self.at, row) {
-            return Err((BoxFault::Plan, self));
-        }
-        if !row.on {
-            return Err((BoxFault::Off, self));
+        if let Err(fault) = row.check_on(&self.plan, self.at) {
+            return Err((fault, self));
         }
         let Seat { plan, at } = self;
         Ok(StartedBox { plan, at })
@@ -101,11 +97,7 @@ impl Seat {
 fn first_awaited(plan: &Plan, at: u8) -> u32
     ensures { result ≡ (if nat_eq at 0 then plan.now.n else at) }
 {
-    if at == 0 {
-        plan.boxes() as u32
-    } else {
-        at as u32
-    }
+    u32::from(if at == 0 { plan.boxes() } else { at })
 }
 
 /// Writes the frame with which a box opens the ring, if it opens with one, and answers its length.
@@ -142,23 +134,7 @@ fn write_empty(plan: &Plan, sender: u8, stamp: u32, votes: u8, out: &mut [u8]) -
     write_token(plan, &draft, out).unwrap()
 }
 
-/// Puts an entry in its place in a table that has room for it.
-fn put_entry(table: &mut Entries, entry: Entry)
-    requires fits { table.old.count ≤ room }
-    requires more { length (held table.old) < room }
-    ensures { table.new ≡ with_entry entry table.old }
-{
-    let _ = has_items(table);
-    let _ = table.insert(entry);
-}
-
-/// Called for what its contract says: a table has all its items, whatever it counts.
-fn has_items(table: &Entries) -> bool
-    ensures { length table.now.items ≡ room }
-{
-    !table.items.is_empty()
-}
-
+// A record is a plain value that may hold anything, so what was tested of it is asked for and not kept in its type.
 impl StartedBox {
     /// The plan of the box.
     pub fn plan(&self) -> &Plan
@@ -189,30 +165,26 @@ impl StartedBox {
         ensures stays { KeepsRules self.now.plan self.now.at row.old → KeepsRules self.now.plan self.now.at row.new }
         ensures reads { ReadsAs self.now.plan (next_entry (box_of row.old) body.now) result out.new }
     {
-        if let Some(fault) = self.send_fault(row, out.len()) {
-            return Err(fault);
-        }
+        self.check_send(row, out.len())?;
         let entry = self.take_serial(row, body);
         // lawful contents are never refused
         let length = write_order(&self.plan, &entry, out).unwrap();
         Ok((entry.id, length))
     }
 
-    /// Why the box's next order is refused, if it is.
-    fn send_fault(&self, row: &BoxRecord, long: usize) -> Option<BoxFault>
-        ensures fault { JudgedRow self.now.plan self.now.at row.now (own_fault (box_of row.now) long) result }
-        ensures cleared { IfNone result (CanSend self.now.plan self.now.at row.now long) }
+    /// Refuses the box's next order where the buffer is short, the record is off or does not keep the rules, or no serial is left.
+    fn check_send(&self, row: &BoxRecord, room: usize) -> Result<(), BoxFault>
+        ensures fault { JudgedRow self.now.plan self.now.at row.now (λ kept. refused_or (own_fault (box_of row.now) room kept) tt) result }
+        ensures cleared { OnOk result (CanSend self.now.plan self.now.at row.now room) }
     {
-        if long < FRAME_MAX {
-            return Some(BoxFault::Short);
+        if room < FRAME_MAX {
+            return Err(BoxFault::Short);
         }
-        if let Some(fault) = self.off_fault(row) {
-            return Some(fault);
-        }
+        row.check_on(&self.plan, self.at)?;
         if row.last >= SERIALS {
-            return Some(BoxFault::Serials);
+            return Err(BoxFault::Serials);
         }
-        None
+        Ok(())
     }
 
     /// Takes the next serial for an order with this body, which is then unordered.
@@ -229,23 +201,10 @@ impl StartedBox {
             id: 16 * self.at + row.last + 1,
             body: *body,
         };
-        put_entry(&mut row.unordered, entry);
+        // fewer than 105 entries are unordered while a serial is left
+        row.unordered.insert(entry).unwrap();
         row.last += 1;
         entry
-    }
-
-    /// Why a call on a box that is to be on is refused, if it is.
-    fn off_fault(&self, row: &BoxRecord) -> Option<BoxFault>
-        ensures fault { JudgedRow self.now.plan self.now.at row.now (off_fault (box_of row.now)) result }
-        ensures cleared { IfNone result (KeepsRules self.now.plan self.now.at row.now) }
-    {
-        if !keeps_rules(&self.plan, self.at, row) {
-            return Some(BoxFault::Plan);
-        }
-        if !row.on {
-            return Some(BoxFault::Off);
-        }
-        None
     }
 
     /// Doubts the predecessor.
@@ -254,11 +213,7 @@ impl StartedBox {
         ensures row { JudgedRow self.now.plan self.now.at row.old (λ kept. kept_row (off_fault (box_of row.old) kept) row.old (doubted_row true row.old)) row.new }
         ensures stays { KeepsRules self.now.plan self.now.at row.old → KeepsRules self.now.plan self.now.at row.new }
     {
-        if let Some(fault) = self.off_fault(row) {
-            return Err(fault);
-        }
-        row.doubt = true;
-        Ok(())
+        self.set_doubt(row, true)
     }
 
     /// Trusts the predecessor again.
@@ -267,10 +222,17 @@ impl StartedBox {
         ensures row { JudgedRow self.now.plan self.now.at row.old (λ kept. kept_row (off_fault (box_of row.old) kept) row.old (doubted_row false row.old)) row.new }
         ensures stays { KeepsRules self.now.plan self.now.at row.old → KeepsRules self.now.plan self.now.at row.new }
     {
-        if let Some(fault) = self.off_fault(row) {
-            return Err(fault);
-        }
-        row.doubt = false;
+        self.set_doubt(row, false)
+    }
+
+    /// Sets whether the predecessor is doubted.
+    fn set_doubt(&self, row: &mut BoxRecord, doubt: bool) -> Result<(), BoxFault>
+        ensures answer { JudgedRow self.now.plan self.now.at row.old (state_call (box_of row.old)) result }
+        ensures row { JudgedRow self.now.plan self.now.at row.old (λ kept. kept_row (off_fault (box_of row.old) kept) row.old (doubted_row doubt row.old)) row.new }
+        ensures stays { KeepsRules self.now.plan self.now.at row.old → KeepsRules self.now.plan self.now.at row.new }
+    {
+        row.check_on(&self.plan, self.at)?;
+        row.doubt = doubt;
         Ok(())
     }
 
@@ -280,9 +242,7 @@ impl StartedBox {
         ensures row { JudgedRow self.now.plan self.now.at row.old (λ kept. kept_row (off_fault (box_of row.old) kept) row.old (off_row row.old)) row.new }
         ensures stays { KeepsRules self.now.plan self.now.at row.old → KeepsRules self.now.plan self.now.at row.new }
     {
-        if let Some(fault) = self.off_fault(row) {
-            return Err(fault);
-        }
+        row.check_on(&self.plan, self.at)?;
         row.on = false;
         Ok(())
     }

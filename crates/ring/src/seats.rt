@@ -3,7 +3,7 @@ ghost use Rattle.std.specs.Prelude.{◌<◌};
 use frames::Plan;
 
 /// A seat of a plan. It can only be started, or taken up again by its record.
-#[derive(Drop)]
+#[derive(Debug, PartialEq, Eq, Drop)]
 pub struct Seat {
     pub(crate) plan: Plan,
     pub(crate) at: u8,
@@ -11,7 +11,7 @@ pub struct Seat {
 }
 
 /// A box that was started: only it takes frames and orders.
-#[derive(Drop)]
+#[derive(Debug, PartialEq, Eq, Drop)]
 pub struct StartedBox {
     pub(crate) plan: Plan,
     pub(crate) at: u8,

@@ -1,28 +1,27 @@
 -- How much lawful lists can hold, and what a record's tables hold as it changes.
-use Rattle.std.proofs.Common.{◌≡◌, ℕ, ◌+◌, ◌<◌, ◌≤◌, Bool, true, false, cond, not, ◌&&◌, eqb, ltb, leb, List, [], ◌∷◌, ◌++◌, length, get_or, Ok, Option, sym, refl, ap, subst, arith}
+use Rattle.std.proofs.Common.{◌≡◌, ℕ, ◌+◌, ◌<◌, ◌≤◌, Bool, true, false, cond, not, ◌&&◌, eqb, leb, List, [], ◌∷◌, length, get_or, Ok, Option, sym, refl, subst, arith}
 use Rattle.std.specs.List.{AllByRecursion}
 use Rattle.std.proofs.lemmas.Bool.Decides.{nat_tests}
 use Rattle.std.proofs.lemmas.Bool.{and_from, cond_both, le-leb, leb-true}
 use Rattle.std.proofs.lemmas.List.Filters.{length-filter_both}
 use Rattle.std.proofs.lemmas.List.{length-map, length-append, length-take}
-use Rattle.std.proofs.ByRecursion.{All-append, All-map, All-weaker}
+use Rattle.std.proofs.ByRecursion.{All-weaker}
 use Rattle.frames.specs.declared.plan.Plan.{Plan}
 use Rattle.frames.specs.declared.Entry.{Entry}
-use Rattle.frames.specs.Contents.{Token, ids_of, Once, InRange, Whole, LawfulEntry, LawfulDecision, LawfulToken}
+use Rattle.frames.specs.Contents.{Token, ids_of, Whole, LawfulEntry, LawfulDecision, LawfulToken}
 use Rattle.frames.specs.Contents.Content.{order}
-use Rattle.frames.proofs.Room as space
+use Rattle.lists.proofs.Inserts.{length_inserted}
 use Rattle.lists.specs.declared.Entries.{Entries}
 use Rattle.lists.specs.Tables.{room, held, holding, inserted, with_entry, without, staying}
 use Rattle.logs.specs.declared.Log.{Log}
-use Rattle.logs.specs.Logs.{adds_up, log_of, lengths_of, takes}
-use Rattle.logs.proofs.Parted.{length_parted}
-use Rattle.logs.proofs.Sound.{sound, log-ids, takes_it}
+use Rattle.logs.specs.Logs.{adds_up, log_of}
 use Rattle.boxes.specs.declared.Outcome.TheVariants as outcome
 use Rattle.boxes.specs.Boxes.{Turn, Box, Keeps, log_ids}
 use Rattle.boxes.specs.Turns.{gap, decides}
 use Rattle.boxes.specs.Handling.{order_answer, order_after}
 use Rattle.boxes.proofs.Ids.{once_beside}
 use Rattle.boxes.proofs.Staying.{records-stay}
+use Rattle.received.proofs.Contents.{room_beside}
 use Rattle.records.specs.declared.OpenTurn.{OpenTurn}
 use Rattle.records.specs.declared.BoxRecord.{BoxRecord}
 use Rattle.records.specs.Records.{box_of, turn_fits, tables_fit, KeepsRules}
@@ -30,13 +29,6 @@ use Rattle.records.specs.Records.{box_of, turn_fits, tables_fit, KeepsRules}
 -- Room
 
 module _ (p : Plan) where
-  in_range : (es : List Entry) → AllByRecursion (LawfulEntry p) es → AllByRecursion (InRange p) (ids_of es)
-  in_range es l = All-map (InRange p) (λ (e : Entry). e.id) es (All-weaker (LawfulEntry p) (λ (e : Entry). InRange p e.id) (λ e h. h.id_in_range) es l)
-
-  logged_in_range : (ds : List (List Entry)) → AllByRecursion (LawfulDecision p) ds → AllByRecursion (InRange p) (log_ids ds)
-  logged_in_range [] l = tt
-  logged_in_range (d ∷ ds) l = All-append (InRange p) (ids_of d) (log_ids ds) (in_range d l.0.entries.each) (logged_in_range ds l.1)
-
   -- each decision has an entry at least
   decisions_few : (ds : List (List Entry)) → AllByRecursion (LawfulDecision p) ds → length ds ≤ length (log_ids ds)
   decisions_few [] l = omega arith
@@ -45,24 +37,9 @@ module _ (p : Plan) where
       let some = l.0.some in
       omega (arith, length-append (ids_of d) (log_ids ds), length-map d (λ (e : Entry). e.id))
 
-  -- lawful entries beside lawful decisions, no id twice, are no more than a table has room for
-  room_beside : (es : List Entry) (ds : List (List Entry)) → AllByRecursion (LawfulEntry p) es → AllByRecursion (LawfulDecision p) ds → Once [] (ids_of es ++ log_ids ds) → length (log_ids ds) + length es ≤ room
-  room_beside es ds l m o =
-      let r = space.room p (ids_of es ++ log_ids ds) (All-append (InRange p) (ids_of es) (log_ids ds) (in_range es l) (logged_in_range ds m)) o in
-      let most = p.most in
-      omega (arith, length-append (ids_of es) (log_ids ds), length-map es (λ (e : Entry). e.id))
-
 -- the id of a whole entry is a byte
 pub ids_bytes : (es : List Entry) → AllByRecursion Whole es → AllByRecursion (λ (e : Entry). e.id < 256) es
 ids_bytes es w = All-weaker Whole (λ (e : Entry). e.id < 256) (λ e h. h.id_byte) es w
-
--- a table whose array is whole has room for one more where it holds fewer than that
-pub count_below : (t : Entries) → length t.items ≡ room → length (held t) < room → t.count < room
-count_below t n h = omega (arith, length-take t.count t.items)
-
-length_inserted : (e : Entry) (es : List Entry) → length (inserted e es) ≡ length es + 1
-length_inserted e [] = refl
-length_inserted e (x ∷ xs) = cond_both (ltb e.id x.id) (e ∷ x ∷ xs) (x ∷ inserted e xs) (λ l. length l ≡ length (x ∷ xs) + 1) (λ _. omega arith) (λ _. omega (arith, length_inserted e xs))
 
 -- there is room for an order that is kept
 pub order_fits : (p : Plan) (i : ℕ) (r : BoxRecord) (e : Entry) → KeepsRules p i r → LawfulEntry p e → order_answer (box_of r) e ≡ Ok outcome.Kept → length (held r.unordered) < room
@@ -85,15 +62,6 @@ decision_fits p t l = room_beside p t.proposal t.decisions l.proposal_lawful.eac
 
 pub decisions_fit : (p : Plan) (t : Token) → LawfulToken p t → 0 < length t.proposal → length t.decisions < room
 decisions_fit p t l some = let most = decision_fits p t l in let few = decisions_few p t.decisions l.decisions_lawful in omega arith
-
--- a log takes a decision that has room
-pub takes_decision : (l : Log) (d : List Entry) → length l.lengths ≡ room → length l.entries.items ≡ room → adds_up l ≡ true → 0 < length d → length (log_of l) < room → length (log_ids (log_of l)) + length d ≤ room → takes l d ≡ true
-takes_decision l d whole items q some few fits =
-    let s = sound l q in
-    takes_it l d q
-    (omega (arith, length_parted (lengths_of l) (held l.entries), length-take l.decided l.lengths))
-    some
-    (omega (arith, s.entries_fit, ap length (log-ids l q), length-map (held l.entries) (λ (e : Entry). e.id), length-take l.entries.count l.entries.items))
 
 -- Tables
 

@@ -20,11 +20,14 @@ use Rattle.writing.specs.declared.WriteFault.{WriteFault}
 use Rattle.writing.specs.declared.WriteFault.TheVariants as refused
 use Rattle.writing.specs.Written.{Writes, refusal, answer, buffer, draft_fault}
 use Rattle.boxes.specs.Calls.{at_front, pass_fault, pass_call, pass_writes, turn_bytes, refused_or, written_or}
+use Rattle.boxes.specs.declared.BoxFault.{BoxFault}
 use Rattle.boxes.specs.Boxes.{Turn, passed}
 use Rattle.boxes.specs.Handling.{is_open}
+use Rattle.boxes.proofs.Refusing.{unrefused}
 use Rattle.boxes.proofs.Staying.{keeps_passing}
 use Rattle.records.specs.declared.BoxRecord.{BoxRecord}
-use Rattle.records.specs.Records.{box_of, KeepsRules}
+use Rattle.records.specs.declared.OpenTurn.{OpenTurn}
+use Rattle.records.specs.Records.{box_of, turn_of, KeepsRules, DraftOf}
 use Rattle.records.proofs.Drafts.{fitting, lawful_draft, is}
 use Rattle.ring.specs.Calls.{JudgedRow, kept_row}
 use Rattle.turns.specs.Rows.{passed_row}
@@ -49,6 +52,15 @@ module _ (p : Plan) (d : Draft) (u : Entries) (l : Log) (fits : leb u.count room
       subst (λ (t : Token). Wrote p (token t) out after r) (is p d u l fits up proposal lengths entries)
       (written p (token (drafted d)) (draft_fault p d) out after r (faultless p d (lawful_draft p d u l fits up proposal lengths entries lawful)) roomy w)
 
+-- the draft of an open turn's lawful token is written
+pub open_written : (p : Plan) (r : BoxRecord) (t : OpenTurn) (d : Draft) → DraftOf r t d → leb t.proposal.count room ≡ true → adds_up r.log ≡ true → LawfulToken p (passed (box_of r) (turn_of t)) →
+    (out after : List ℕ) (x : Result ℕ WriteFault) → frame_most ≤ length out → Writes p (token (drafted d)) (draft_fault p d) out after x → Wrote p (token (passed (box_of r) (turn_of t))) out after x
+open_written p r t d q fits up lawful out after x roomy w =
+    let same : record { sender = d.sender; stamp = d.stamp; votes = d.votes; proposal = held t.proposal; decisions = log_of r.log } ≡ passed (box_of r) (turn_of t) =
+    λ i. record { sender = q.sender i; stamp = q.stamp i; votes = q.votes i; proposal = held t.proposal; decisions = log_of r.log } in
+    subst (λ (z : Token). Wrote p (token z) out after x) same
+    (draft_written p d t.proposal r.log fits up q.proposal q.lengths q.entries out after x (subst (LawfulToken p) (sym same) lawful) roomy w)
+
 -- an apparent value: what a call says of a record that keeps the rules
 pub judged : {X : Type 0} (p : Plan) (i : ℕ) (r : BoxRecord) (f : Bool → X) (x : X) → KeepsRules p i r → x ≡ f true → JudgedRow p i r f x
 judged p i r f x k e = (λ _. e, λ no'. absurd (no' k))
@@ -63,9 +75,9 @@ opened_by None h = absurd (true≢false (sym h))
 opened_by (Some t) h = (t, refl)
 
 -- what a pass leaves, where there is no fault
-module _ (p : Plan) (i : ℕ) (r : BoxRecord) (size seat round : ℕ) (m : MayPass p i r size seat round) (no_fault : JudgedRow p i r (λ kept. pass_fault (box_of r) kept size seat round) None) where
+module _ (p : Plan) (i : ℕ) (r : BoxRecord) (size seat round : ℕ) (m : MayPass p i r size seat round) (no_fault : JudgedRow {X = Result (Unit {0}) BoxFault} p i r (λ kept. refused_or (pass_fault (box_of r) kept size seat round) tt) (Ok tt)) where
   pub unfaulted : pass_fault (box_of r) true size seat round ≡ None
-  unfaulted = sym (no_fault.0 m.rules)
+  unfaulted = unrefused {A = Unit {0}} _ tt (no_fault.0 m.rules)
 
   pub answers : (n : ℕ) → n ≡ length (turn_bytes p (box_of r) (box_of r).turn) → JudgedRow p i r (λ kept. pass_call p (box_of r) kept size seat round) (Ok n)
   answers n e = judged p i r (λ kept. pass_call p (box_of r) kept size seat round) (Ok n) m.rules (ap Ok e ∙ sym (ap (λ z. refused_or z (length (turn_bytes p (box_of r) (box_of r).turn))) unfaulted))

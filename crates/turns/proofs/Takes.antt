@@ -29,7 +29,8 @@ use Rattle.records.specs.Records.{box_of, turn_of, tables_fit, KeepsRules}
 use Rattle.history.specs.Histories.{History}
 use Rattle.std.specs.List.{ContainsAt as Has, AllByRecursion}
 use Rattle.ring.specs.Calls.{JudgedRow}
-use Rattle.turns.specs.Frames.{FrameLaws}
+use Rattle.boxes.specs.Outcomes.{Maps}
+use Rattle.turns.specs.Frames.{outcome_of, FrameLaws}
 use Rattle.turns.proofs.Endings.{judged}
 
 unmapped : (o : Option OpenTurn) → option_map turn_of o ≡ None → o ≡ None
@@ -54,24 +55,24 @@ module _ (p : Plan) (i : ℕ) (b : Box) (k : Keeps p i b) (bytes : List ℕ) whe
       same : (d : Content) → read_as p bytes ≡ Ok d → c ≡ d
       same d e = cc
 
-      made_by : (t : Token) (r : Result Outcome BoxFault) (turn : Turn) → r ≡ Ok outcome.Opened → (token_after p b t r).turn ≡ Some turn → passed (opened p b t) (opened_turn p b t) ≡ passed (token_after p b t r) turn
+      made_by : (t : Token) (r : Result (Outcome (Unit {0})) BoxFault) (turn : Turn) → r ≡ Ok (outcome.Opened tt) → (token_after p b t r).turn ≡ Some turn → passed (opened p b t) (opened_turn p b t) ≡ passed (token_after p b t r) turn
       made_by t r turn e is_open =
           let after : token_after p b t r ≡ opened p b t = ap (token_after p b t) e in
           let turned : Some (opened_turn p b t) ≡ Some turn = sym (ap (λ (z : Box). z.turn) after) ∙ is_open in
           let one : opened_turn p b t ≡ turn = cc in
           ap (passed (opened p b t)) one ∙ ap (λ (z : Box). passed z turn) (sym after)
 
-      makes : (t : Token) → token t ≡ c → Lawful p c → answer p b c ≡ Ok outcome.Opened → (turn : Turn) → (box_after p b c).turn ≡ Some turn →
+      makes : (t : Token) → token t ≡ c → Lawful p c → answer p b c ≡ Ok (outcome.Opened tt) → (turn : Turn) → (box_after p b c).turn ≡ Some turn →
           (sent : List Entry) → AllByRecursion (Has sent) b.unordered → (H : History Entry) → Logged H b → ComesFrom p sent H b t (passed (box_after p b c) turn)
       makes t e law opens turn is_open sent all H logged =
-          let opens' : answer p b (token t) ≡ Ok outcome.Opened = subst (λ z. answer p b z ≡ Ok outcome.Opened) (sym e) opens in
+          let opens' : answer p b (token t) ≡ Ok (outcome.Opened tt) = subst (λ z. answer p b z ≡ Ok (outcome.Opened tt)) (sym e) opens in
           let open' : (box_after p b (token t)).turn ≡ Some turn = subst (λ z. (box_after p b z).turn ≡ Some turn) (sym e) is_open in
           let law' : LawfulToken p t = subst (Lawful p) (sym e) law in
           let made : ComesFrom p sent H b t (passed (box_after p b (token t)) turn) = subst (ComesFrom p sent H b t) (made_by t (token_answer p b t) turn opens' open') (turns_make_tokens p i b t k law' opens' sent all H logged) in
           subst (λ z. ComesFrom p sent H b t (passed (box_after p b z) turn)) e made
 
   -- and of bytes that are no frame
-  pub laws_none : (e : FrameFault) (r : Result Outcome BoxFault) → read_as p bytes ≡ Err e → FrameLaws p b bytes r b
+  pub laws_none : (e : FrameFault) (r : Result (Outcome (Unit {0})) BoxFault) → read_as p bytes ≡ Err e → FrameLaws p b bytes r b
   laws_none e r read = record {
     grows = ([], sym (append-nil b.log));
     logs = λ d q. never d q;
@@ -84,13 +85,13 @@ module _ (p : Plan) (i : ℕ) (b : Box) (k : Keeps p i b) (bytes : List ℕ) whe
       never d q = let z : ◌≡◌ {A = ℕ} 0 1 = cc in absurd (omega arith)
 
 -- a frame that was read and taken
-pub record Taken (p : Plan) (i : ℕ) (r : BoxRecord) (bytes : List ℕ) (res : Result Outcome BoxFault) (r' : BoxRecord) : Type 0 where
+pub record Taken (p : Plan) (i : ℕ) (r : BoxRecord) (bytes : List ℕ) (res : Result (Outcome (Unit {0})) BoxFault) (r' : BoxRecord) : Type 0 where
   pub answer : JudgedRow p i r (λ kept. frame_call p (box_of r) kept bytes) res
   pub meaning : JudgedRow p i r (λ kept. frame_after p (box_of r) kept bytes) (box_of r')
   pub stays : KeepsRules p i r'
   pub laws : FrameLaws p (box_of r) bytes res (box_of r')
 
-pub taken : (p : Plan) (i : ℕ) (r : BoxRecord) (bytes : List ℕ) (c : Content) (res : Result Outcome BoxFault) (r' : BoxRecord) → KeepsRules p i r → r.on ≡ true → Lawful p c → Ok c ≡ read_as p bytes →
+pub taken : (p : Plan) (i : ℕ) (r : BoxRecord) (bytes : List ℕ) (c : Content) (res : Result (Outcome (Unit {0})) BoxFault) (r' : BoxRecord) → KeepsRules p i r → r.on ≡ true → Lawful p c → Ok c ≡ read_as p bytes →
     res ≡ answer p (box_of r) c → box_of r' ≡ box_after p (box_of r) c → tables_fit r' ≡ true → Taken p i r bytes res r'
 taken p i r bytes c res r' k on lawful read answers becomes fits =
     let b = box_of r in
@@ -105,5 +106,14 @@ taken p i r bytes c res r' k on lawful read answers becomes fits =
     }
 
 -- the same for the plan and the seat of the started box, which its calls answer
-pub at_started : (p q : Plan) (i j : ℕ) (r : BoxRecord) (bytes : List ℕ) (res : Result Outcome BoxFault) (r' : BoxRecord) → p ≡ q → i ≡ j → Taken p i r bytes res r' → Taken q j r bytes res r'
+pub at_started : (p q : Plan) (i j : ℕ) (r : BoxRecord) (bytes : List ℕ) (res : Result (Outcome (Unit {0})) BoxFault) (r' : BoxRecord) → p ≡ q → i ≡ j → Taken p i r bytes res r' → Taken q j r bytes res r'
 at_started p q i j r bytes res r' ep ei t = subst (λ z. Taken z j r bytes res r') ep (subst (λ z. Taken p z r bytes res r') ei t)
+
+-- telling of an opened turn leaves the answer
+pub mapped : {T : Type 0} (R : Unit {0} → T → Type 0) (o : Outcome (Unit {0})) (h : Outcome T) → Maps R o h → outcome_of h ≡ o
+mapped R outcome.Kept h e = ap outcome_of e
+mapped R outcome.Known h e = ap outcome_of e
+mapped R outcome.Waits h e = ap outcome_of e
+mapped R outcome.Stale h e = ap outcome_of e
+mapped R (outcome.Learned k) h e = ap outcome_of e
+mapped R (outcome.Opened tt) h e = ap outcome_of e.1.1

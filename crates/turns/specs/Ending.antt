@@ -1,5 +1,5 @@
 -- What ends a turn, and what a refusal hands back.
-use Rattle.std.specs.Prelude.{◌≡◌, ℕ, ◌≤◌, true, List, take, Some, None, Ok, Err, Option, Result}
+use Rattle.std.specs.Prelude.{◌≡◌, ℕ, ◌≤◌, true, List, take, Some, Ok, Err, Result}
 use Rattle.frames.specs.declared.plan.Plan.{Plan}
 use Rattle.frames.specs.Contents.{frame_most}
 use Rattle.frames.specs.Contents.Content.{token}
@@ -33,8 +33,3 @@ pub record MayPass (p : Plan) (i : ℕ) (r : BoxRecord) (room seat round : ℕ) 
   pub rules : KeepsRules p i r
   pub is_on : r.on ≡ true
   pub own : is_turn_of (box_of r) seat round ≡ true
-
--- What holds if there is no fault.
-abbrev pub Unrefused : Option BoxFault → Type 0 → Type 0
-Unrefused None P = P
-Unrefused (Some e) P = Unit {0}

@@ -1,23 +1,24 @@
 //! How a turn ends: it is passed or forfeited.
-ghost use Rattle.std.specs.Prelude.{◌≡◌, ◌≤◌, true, length, nat_le};
+//! A record is a plain value that may hold anything, so what was tested of it is asked for and not kept in its type.
+ghost use Rattle.std.specs.Prelude.{◌≡◌, ◌≤◌, true, length, OnOk, nat_le};
 ghost use Rattle.frames.specs.Contents.{bytes_of, frame_most};
 ghost use Rattle.frames.specs.Contents.Content.{token};
 ghost use Rattle.logs.specs.Logs.{adds_up};
 ghost use Rattle.lists.specs.Tables.{room};
 ghost use Rattle.frames.specs.Contents.{LawfulToken};
 ghost use Rattle.boxes.specs.Boxes.{passed};
-ghost use Rattle.boxes.specs.Calls.{is_turn_of, pass_fault, pass_call, pass_writes, forfeit_fault, forfeit_call, turn_bytes, at_front};
+ghost use Rattle.boxes.specs.Calls.{is_turn_of, pass_fault, pass_call, pass_writes, forfeit_fault, forfeit_call, refused_or, turn_bytes, at_front};
 ghost use Rattle.records.specs.Records.{box_of, turn_of, KeepsRules};
 ghost use Rattle.ring.specs.Calls.{JudgedRow, kept_row};
 ghost use Rattle.turns.specs.Rows.{passed_row, forfeited_row};
-ghost use Rattle.turns.specs.Ending.{fault_only, HandsBack, MayPass, PassReads, Unrefused};
+ghost use Rattle.turns.specs.Ending.{fault_only, HandsBack, MayPass, PassReads};
 
 use crate::turn::Turn;
 use boxes::BoxFault;
 use frames::{FRAME_MAX, Plan};
-use records::{BoxRecord, OpenTurn, keeps_rules};
+use records::{BoxRecord, OpenTurn};
 use ring::StartedBox;
-use writing::{Draft, write_token};
+use writing::write_token;
 
 impl Turn {
     /// Whether this is the record's open turn.
@@ -27,37 +28,32 @@ impl Turn {
         row.turn.is_some() && self.seat == row.seat && self.round == row.awaited
     }
 
-    /// Why a pass is refused, if it is.
-    fn pass_fault(&self, started: &StartedBox, row: &BoxRecord, room: usize) -> Option<BoxFault>
-        ensures fault { JudgedRow started.now.plan started.now.at row.now (λ kept. pass_fault (box_of row.now) kept room self.now.seat self.now.round) result }
-        ensures may { Unrefused result (MayPass started.now.plan started.now.at row.now room self.now.seat self.now.round) }
+    /// Refuses a pass where the buffer is short, the record is off or does not keep the rules, or the turn is not its open one.
+    fn check_pass(&self, started: &StartedBox, row: &BoxRecord, room: usize) -> Result<(), BoxFault>
+        ensures fault { JudgedRow started.now.plan started.now.at row.now (λ kept. refused_or (pass_fault (box_of row.now) kept room self.now.seat self.now.round) tt) result }
+        ensures may { OnOk result (MayPass started.now.plan started.now.at row.now room self.now.seat self.now.round) }
     {
         if room < FRAME_MAX {
-            return Some(BoxFault::Short);
+            return Err(BoxFault::Short);
         }
-        if !keeps_rules(started.plan(), started.at(), row) {
-            return Some(BoxFault::Plan);
-        }
-        if !row.on {
-            return Some(BoxFault::Off);
-        }
+        row.check_on(started.plan(), started.at())?;
         if !self.is_of(row) {
-            return Some(BoxFault::Turn);
+            return Err(BoxFault::Turn);
         }
-        None
+        Ok(())
     }
 
-    /// Why a forfeit is refused, if it is; the box may be off.
-    fn forfeit_fault(&self, started: &StartedBox, row: &BoxRecord) -> Option<BoxFault>
-        ensures { JudgedRow started.now.plan started.now.at row.now (λ kept. forfeit_fault (box_of row.now) kept self.now.seat self.now.round) result }
+    /// Refuses a forfeit where the record does not keep the rules, or the turn is not its open one; the box may be off.
+    fn check_forfeit(&self, started: &StartedBox, row: &BoxRecord) -> Result<(), BoxFault>
+        ensures { JudgedRow started.now.plan started.now.at row.now (λ kept. forfeit_call (box_of row.now) kept self.now.seat self.now.round) result }
     {
-        if !keeps_rules(started.plan(), started.at(), row) {
-            return Some(BoxFault::Plan);
+        if !row.keeps_rules(started.plan(), started.at()) {
+            return Err(BoxFault::Plan);
         }
         if !self.is_of(row) {
-            return Some(BoxFault::Turn);
+            return Err(BoxFault::Turn);
         }
-        None
+        Ok(())
     }
 
     /// Passes the turn: the token stands at the front of the buffer, and its length is the answer. A refusal hands the turn back.
@@ -74,7 +70,7 @@ impl Turn {
         ensures reads { PassReads started.now.plan (box_of row.old) result out.new }
         ensures stays { KeepsRules started.now.plan started.now.at row.old → KeepsRules started.now.plan started.now.at row.new }
     {
-        if let Some(fault) = self.pass_fault(started, row, out.len()) {
+        if let Err(fault) = self.check_pass(started, row, out.len()) {
             return Err((fault, self));
         }
         let length = write_turn(started.plan(), row, out);
@@ -91,10 +87,10 @@ impl Turn {
         ensures row { JudgedRow started.now.plan started.now.at row.old (λ kept. kept_row (forfeit_fault (box_of row.old) kept self.seat self.round) row.old (forfeited_row row.old)) row.new }
         ensures stays { KeepsRules started.now.plan started.now.at row.old → KeepsRules started.now.plan started.now.at row.new }
     {
-        if let Some(fault) = self.forfeit_fault(started, row) {
+        if let Err(fault) = self.check_forfeit(started, row) {
             return Err((fault, self));
         }
-        Turn::end(self);
+        self.end();
         row.on = false;
         row.turn = None;
         Ok(())
@@ -122,16 +118,7 @@ fn write_open<'a>(plan: &Plan, row: &'a BoxRecord, turn: &'a OpenTurn, out: &mut
     ensures long { result ≡ length (bytes_of plan.now (token (passed (box_of row.now) (turn_of turn.now)))) }
     ensures buffer { out.new ≡ at_front (bytes_of plan.now (token (passed (box_of row.now) (turn_of turn.now)))) out.old }
 {
-    let draft = Draft {
-        sender: row.seat,
-        stamp: row.awaited + 1,
-        votes: turn.votes,
-        proposal: turn.proposal.part(),
-        lengths: row.log.decision_lengths(),
-        entries: row.log.entries.part(),
-    };
-    match write_token(plan, &draft, out) {
-        Ok(length) => length,
-        Err(_) => 0,
-    }
+    let draft = turn.draft(row).unwrap();
+    // lawful contents are never refused
+    write_token(plan, &draft, out).unwrap()
 }

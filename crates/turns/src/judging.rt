@@ -1,29 +1,30 @@
 //! The tests by which a box answers an order or a token, the topmost row first.
-ghost use Rattle.std.specs.Prelude.{◌≡◌, ◌-◌, ◌<◌, true, ◌||◌, length, if◌then◌else◌, nat_lt};
+ghost use Rattle.std.specs.Prelude.{◌≡◌, ◌-◌, true, ◌||◌, length, if◌then◌else◌, nat_lt};
 ghost use Rattle.frames.specs.Contents.{has, ids_of};
 ghost use Rattle.logs.specs.Logs.{adds_up, log_of};
 ghost use Rattle.boxes.specs.declared.Outcome.TheVariants as outcome;
 ghost use Rattle.boxes.specs.Boxes.{log_ids, token_ids};
-ghost use Rattle.boxes.specs.Turns.{gap as gap_of};
+ghost use Rattle.boxes.specs.Turns.{gap as gap_of, short};
 ghost use Rattle.boxes.specs.Handling.{steps as steps_of, all_used, meant, expected, would_open, is_behind, agrees, token_answer, order_answer};
-ghost use Rattle.records.specs.Records.{box_of, KeepsRules};
-ghost use Rattle.received.specs.Received.{token_of, TokenFits};
+ghost use Rattle.records.specs.Records.{box_of};
+ghost use Rattle.received.specs.Received.{token_of};
 
+use crate::handed::Handed;
 use boxes::{BoxFault, Outcome};
-use frames::{Entry, Plan};
-use logs::Log;
-use received::ReceivedToken;
-use records::{BoxRecord, id_used, part_used};
+use frames::Entry;
+use records::BoxRecord;
 
 /// The last round for which a turn may open.
 const LAST_ROUND: u32 = 999_999;
+
+// An order is one entry, so its tests take the record and the entry as they are.
 
 /// What a box answers to an order.
 pub(crate) fn order_answer(row: &BoxRecord, entry: &Entry) -> Result<Outcome, BoxFault>
     requires { adds_up row.now.log ≡ true }
     ensures { result ≡ order_answer (box_of row.now) entry.now }
 {
-    if !id_used(row, entry.id) {
+    if !row.id_used(entry.id) {
         return Err(BoxFault::Sender);
     }
     if is_known(row, entry.id) {
@@ -40,114 +41,115 @@ fn is_known(row: &BoxRecord, id: u8) -> bool
     row.unordered.has_id(id) || row.log.entries.has_id(id)
 }
 
-/// How many rounds a token is behind the awaited one; 0 for the awaited round or a later one.
-pub(crate) fn gap(row: &BoxRecord, token: &ReceivedToken) -> u64
-    ensures { result ≡ gap_of (box_of row.now) (token_of token.now) }
-{
-    // the largest awaited round has a stamp that no u32 holds
-    (row.awaited as u64 + 1).saturating_sub(token.stamp as u64)
-}
-
-/// What a box answers to a token.
-pub(crate) fn token_answer(
-    plan: &Plan,
-    at: u8,
-    row: &BoxRecord,
-    token: &ReceivedToken,
-) -> Result<Outcome, BoxFault>
-    requires { (KeepsRules plan.now at row.now) × ((TokenFits plan.now token.now) × (at < plan.now.n)) }
-    ensures { result ≡ token_answer plan.now (box_of row.now) (token_of token.now) }
-{
-    if !is_expected(plan, at, row, token) {
-        return Err(BoxFault::Sender);
+impl Handed<'_> {
+    /// What the box answers to the token.
+    pub(crate) fn answer(&self) -> Result<Outcome, BoxFault>
+        ensures { result ≡ token_answer self.now.plan.now (box_of self.now.row.now) (token_of self.now.token.now) }
+    {
+        if !self.is_expected() {
+            return Err(BoxFault::Sender);
+        }
+        if self.row.turn.is_some() {
+            return Err(BoxFault::Open);
+        }
+        let opens = self.would_open();
+        if !opens && !self.is_behind() {
+            return Ok(Outcome::Waits);
+        }
+        if !self.logs_agree() {
+            return Err(BoxFault::History);
+        }
+        if !opens {
+            return Ok(self.lesson());
+        }
+        if self.row.awaited > LAST_ROUND {
+            return Err(BoxFault::Rounds);
+        }
+        Ok(Outcome::Opened(()))
     }
-    if row.turn.is_some() {
-        return Err(BoxFault::Open);
+
+    /// Whether the token is meant for this box and has no id of it above its last serial.
+    fn is_expected(&self) -> bool
+        ensures { result ≡ expected self.now.plan.now (box_of self.now.row.now) (token_of self.now.token.now) }
+    {
+        self.is_meant() && self.ids_used()
     }
-    let opens = would_open(plan, row, token);
-    if !opens && !is_behind(plan, row, token) {
-        return Ok(Outcome::Waits);
+
+    /// Whether the token is meant for this box: a dummy for the first ones that it reaches, any other token for the f+1 successors of its sender.
+    fn is_meant(&self) -> bool
+        ensures { result ≡ meant self.now.plan.now self.now.row.now.seat (token_of self.now.token.now) }
+    {
+        if self.token.stamp == 0 {
+            return (1..=self.plan.dummy_reach(self.token.sender)).contains(&self.row.seat);
+        }
+        (1..=self.plan.tolerance() + 1).contains(&self.steps())
     }
-    if !logs_agree(&row.log, &token.log) {
-        return Err(BoxFault::History);
+
+    /// How many boxes ahead of the sender this box is.
+    fn steps(&self) -> u8
+        ensures { result ≡ steps_of self.now.plan.now self.now.row.now.seat self.now.token.now.sender }
+    {
+        let boxes = self.plan.boxes();
+        (self.row.seat + boxes - self.token.sender) % boxes
     }
-    if !opens {
-        return Ok(lesson(&row.log, &token.log));
+
+    /// Whether no id of the box's own in the token is above its last serial.
+    fn ids_used(&self) -> bool
+        ensures { result ≡ all_used (box_of self.now.row.now) (token_ids (token_of self.now.token.now)) }
+    {
+        self.row.part_used(self.token.proposal.part())
+            && self.row.part_used(self.token.log.entries.part())
     }
-    if row.awaited > LAST_ROUND {
-        return Err(BoxFault::Rounds);
+
+    /// How many rounds the token is behind the awaited one; 0 for the awaited round or a later one.
+    pub(crate) fn gap(&self) -> u64
+        ensures { result ≡ gap_of (box_of self.now.row.now) (token_of self.now.token.now) }
+    {
+        // the largest awaited round has a stamp that no u32 holds
+        (u64::from(self.row.awaited) + 1).saturating_sub(u64::from(self.token.stamp))
     }
-    Ok(Outcome::Opened)
-}
 
-/// Whether a token is meant for this box and has no id of it above its last serial.
-fn is_expected(plan: &Plan, at: u8, row: &BoxRecord, token: &ReceivedToken) -> bool
-    requires { (KeepsRules plan.now at row.now) × ((TokenFits plan.now token.now) × (at < plan.now.n)) }
-    ensures { result ≡ expected plan.now (box_of row.now) (token_of token.now) }
-{
-    is_meant(plan, at, token) && ids_used(row, token)
-}
-
-/// Whether a token is meant for this box: a dummy for the first ones that it reaches, any other token for the f+1 successors of its sender.
-fn is_meant(plan: &Plan, at: u8, token: &ReceivedToken) -> bool
-    requires { (at < plan.now.n) × (token.now.sender < plan.now.n) }
-    ensures { result ≡ meant plan.now at (token_of token.now) }
-{
-    if token.stamp == 0 {
-        return 1 <= at && at <= plan.dummy_reach(token.sender);
+    /// Whether a turn would open: the token is of the round just before, or up to f+1 rounds behind while the predecessor is doubted.
+    fn would_open(&self) -> bool
+        ensures { result ≡ would_open self.now.plan.now (box_of self.now.row.now) (token_of self.now.token.now) }
+    {
+        let gap = self.gap();
+        gap == 1 || (self.row.doubt && 2 <= gap && gap <= u64::from(self.plan.tolerance()) + 1)
     }
-    let steps = steps(plan, at, token.sender);
-    1 <= steps && steps <= plan.tolerance() + 1
-}
 
-/// How many boxes ahead of the sender this box is.
-fn steps(plan: &Plan, at: u8, sender: u8) -> u8
-    requires { (at < plan.now.n) × (sender < plan.now.n) }
-    ensures { result ≡ steps_of plan.now at sender }
-{
-    let boxes = plan.boxes();
-    (at + boxes - sender) % boxes
-}
+    /// Whether the token is more than a whole ring behind.
+    fn is_behind(&self) -> bool
+        ensures { result ≡ is_behind self.now.plan.now (box_of self.now.row.now) (token_of self.now.token.now) }
+    {
+        self.gap() > u64::from(self.plan.boxes())
+    }
 
-/// Whether no id of the box's own in a token is above its last serial.
-fn ids_used(row: &BoxRecord, token: &ReceivedToken) -> bool
-    requires { adds_up token.now.log ≡ true }
-    ensures { result ≡ all_used (box_of row.now) (token_ids (token_of token.now)) }
-{
-    part_used(row, token.proposal.part()) && part_used(row, token.log.entries.part())
-}
+    /// Whether the token has fewer decisions than the log.
+    pub(crate) fn is_short(&self) -> bool
+        ensures { result ≡ short (box_of self.now.row.now) (token_of self.now.token.now) }
+    {
+        self.token.log.decision_lengths().len() < self.row.log.decision_lengths().len()
+    }
 
-/// Whether a turn would open: the token is of the round just before, or up to f+1 rounds behind while the predecessor is doubted.
-fn would_open(plan: &Plan, row: &BoxRecord, token: &ReceivedToken) -> bool
-    ensures { result ≡ would_open plan.now (box_of row.now) (token_of token.now) }
-{
-    let gap = gap(row, token);
-    gap == 1 || (row.doubt && 2 <= gap && gap <= plan.tolerance() as u64 + 1)
-}
+    /// Whether one of the two logs begins the other.
+    fn logs_agree(&self) -> bool
+        ensures { result ≡ agrees (log_of self.now.row.now.log) (log_of self.now.token.now.log) }
+    {
+        let own = &self.row.log;
+        let other = &self.token.log;
+        own.begins_log(other) || other.begins_log(own)
+    }
 
-/// Whether a token is more than a whole ring behind.
-fn is_behind(plan: &Plan, row: &BoxRecord, token: &ReceivedToken) -> bool
-    ensures { result ≡ is_behind plan.now (box_of row.now) (token_of token.now) }
-{
-    gap(row, token) > plan.boxes() as u64
-}
-
-/// Whether one of two logs begins the other.
-fn logs_agree(own: &Log, other: &Log) -> bool
-    requires { (adds_up own.now ≡ true) × (adds_up other.now ≡ true) }
-    ensures { result ≡ agrees (log_of own.now) (log_of other.now) }
-{
-    own.begins_log(other) || other.begins_log(own)
-}
-
-/// What a token far behind teaches: the decisions that it has more than the log.
-fn lesson(own: &Log, other: &Log) -> Outcome
-    requires { (adds_up own.now ≡ true) × (adds_up other.now ≡ true) }
-    ensures { result ≡ (if nat_lt (length (log_of own.now)) (length (log_of other.now)) then outcome.Learned (length (log_of other.now) - length (log_of own.now)) else outcome.Stale) }
-{
-    if own.decided < other.decided {
-        Outcome::Learned(other.decided - own.decided)
-    } else {
-        Outcome::Stale
+    /// What a token far behind teaches: the decisions that it has more than the log.
+    fn lesson(&self) -> Outcome
+        ensures { result ≡ (if nat_lt (length (log_of self.now.row.now.log)) (length (log_of self.now.token.now.log)) then outcome.Learned (length (log_of self.now.token.now.log) - length (log_of self.now.row.now.log)) else outcome.Stale) }
+    {
+        let own = self.row.log.decision_lengths().len();
+        let other = self.token.log.decision_lengths().len();
+        if own < other {
+            Outcome::Learned((other - own) as u8)
+        } else {
+            Outcome::Stale
+        }
     }
 }

@@ -4,9 +4,10 @@
 
 mod changing;
 mod ending;
+mod handed;
 mod judging;
 mod taking;
 mod turn;
 
 pub use taking::take_frame;
-pub use turn::{Handled, Turn};
+pub use turn::Turn;

@@ -9,12 +9,13 @@ ghost use Rattle.ring.specs.Calls.{JudgedRow};
 ghost use Rattle.turns.specs.Frames.{answered, TurnOf, Unmoved, FrameLaws};
 
 use crate::changing::{keep_order, learn, open_turn};
-use crate::judging::{order_answer, token_answer};
-use crate::turn::{Handled, Turn};
+use crate::handed::Handed;
+use crate::judging::order_answer;
+use crate::turn::Turn;
 use boxes::{BoxFault, Outcome};
-use frames::{Entry, Plan};
+use frames::Entry;
 use received::{Received, ReceivedToken, receive};
-use records::{BoxRecord, keeps_rules};
+use records::BoxRecord;
 use ring::StartedBox;
 
 /// Hands a started box a frame's bytes. An opened turn is handed out, to be passed or forfeited.
@@ -22,7 +23,7 @@ pub fn take_frame(
     started: &StartedBox,
     row: &mut BoxRecord,
     bytes: &[u8],
-) -> Result<Handled, BoxFault>
+) -> Result<Outcome<Turn>, BoxFault>
     ensures answer { JudgedRow started.now.plan started.now.at row.old (λ kept. frame_call started.now.plan (box_of row.old) kept bytes.now) (answered result) }
     ensures turn { TurnOf row.new result }
     ensures meaning { JudgedRow started.now.plan started.now.at row.old (λ kept. frame_after started.now.plan (box_of row.old) kept bytes.now) (box_of row.new) }
@@ -30,18 +31,10 @@ pub fn take_frame(
     ensures stays { KeepsRules started.now.plan started.now.at row.old → KeepsRules started.now.plan started.now.at row.new }
     ensures laws { KeepsRules started.now.plan started.now.at row.old → row.old.on ≡ true → FrameLaws started.now.plan (box_of row.old) bytes.now (answered result) (box_of row.new) }
 {
-    match take_bytes(started, row, bytes) {
-        Ok(Outcome::Kept) => Ok(Handled::Kept),
-        Ok(Outcome::Known) => Ok(Handled::Known),
-        Ok(Outcome::Waits) => Ok(Handled::Waits),
-        Ok(Outcome::Stale) => Ok(Handled::Stale),
-        Ok(Outcome::Learned(more)) => Ok(Handled::Learned(more)),
-        Ok(Outcome::Opened) => Ok(Handled::Opened(Turn {
-            seat: row.seat,
-            round: row.awaited,
-        })),
-        Err(fault) => Err(fault),
-    }
+    let outcome = take_bytes(started, row, bytes)?;
+    let seat = row.seat;
+    let round = row.awaited;
+    Ok(outcome.map(|()| Turn { seat, round }))
 }
 
 /// The answer to a frame's bytes, and the record after it: rows 2, 4 and 9, and then by the frame's contents.
@@ -52,28 +45,17 @@ fn take_bytes(started: &StartedBox, row: &mut BoxRecord, bytes: &[u8]) -> Result
     ensures stays { KeepsRules started.now.plan started.now.at row.old → KeepsRules started.now.plan started.now.at row.new }
     ensures laws { KeepsRules started.now.plan started.now.at row.old → row.old.on ≡ true → FrameLaws started.now.plan (box_of row.old) bytes.now result (box_of row.new) }
 {
-    let plan = started.plan();
-    let at = started.at();
-    if !keeps_rules(plan, at, row) {
-        return Err(BoxFault::Plan);
-    }
-    if !row.on {
-        return Err(BoxFault::Off);
-    }
-    let received = match receive(plan, bytes) {
-        Ok(received) => received,
-        Err(fault) => return Err(BoxFault::Frame(fault)),
-    };
-    match received {
-        Received::Order(entry) => take_order(plan, at, row, entry),
-        Received::Token(token) => take_token(plan, at, row, &token),
+    row.check_on(started.plan(), started.at())?;
+    match receive(started.plan(), bytes)? {
+        Received::Order(entry) => take_order(started, row, entry),
+        Received::Token(token) => take_token(started, row, &token),
     }
 }
 
 /// Takes an order: it is kept, or known already.
-fn take_order(plan: &Plan, at: u8, row: &mut BoxRecord, entry: Entry) -> Result<Outcome, BoxFault>
-    requires keeps { KeepsRules plan.now at row.old }
-    requires lawful { LawfulEntry plan.now entry }
+fn take_order(started: &StartedBox, row: &mut BoxRecord, entry: Entry) -> Result<Outcome, BoxFault>
+    requires keeps { KeepsRules started.now.plan started.now.at row.old }
+    requires lawful { LawfulEntry started.now.plan entry }
     ensures answer { result ≡ order_answer (box_of row.old) entry }
     ensures meaning { box_of row.new ≡ order_after (box_of row.old) entry (order_answer (box_of row.old) entry) }
     ensures tables { tables_fit row.new ≡ true }
@@ -81,30 +63,30 @@ fn take_order(plan: &Plan, at: u8, row: &mut BoxRecord, entry: Entry) -> Result<
 {
     let outcome = order_answer(row, &entry)?;
     if let Outcome::Kept = outcome {
-        keep_order(plan, at, row, entry);
+        keep_order(started, row, entry);
     }
     Ok(outcome)
 }
 
 /// Takes a token: a turn opens, or the box learns, or the record stays.
 fn take_token(
-    plan: &Plan,
-    at: u8,
+    started: &StartedBox,
     row: &mut BoxRecord,
     token: &ReceivedToken,
 ) -> Result<Outcome, BoxFault>
-    requires keeps { KeepsRules plan.now at row.old }
-    requires fits { TokenFits plan.now token.now }
-    requires seat { at < plan.now.n }
-    ensures answer { result ≡ token_answer plan.now (box_of row.old) (token_of token.now) }
-    ensures meaning { box_of row.new ≡ token_after plan.now (box_of row.old) (token_of token.now) (token_answer plan.now (box_of row.old) (token_of token.now)) }
+    requires keeps { KeepsRules started.now.plan started.now.at row.old }
+    requires fits { TokenFits started.now.plan token.now }
+    ensures answer { result ≡ token_answer started.now.plan (box_of row.old) (token_of token.now) }
+    ensures meaning { box_of row.new ≡ token_after started.now.plan (box_of row.old) (token_of token.now) (token_answer started.now.plan (box_of row.old) (token_of token.now)) }
     ensures tables { tables_fit row.new ≡ true }
     ensures unmoved { Unmoved result row.old row.new }
 {
-    let outcome = token_answer(plan, at, row, token)?;
+    let plan = started.plan();
+    let outcome = Handed { plan, row, token }.answer()?;
+    // a step for each case, and the check sees that none is left out
     match outcome {
-        Outcome::Opened => open_turn(plan, at, row, token),
-        Outcome::Learned(_) => learn(plan, at, row, token),
+        Outcome::Opened(()) => open_turn(started, row, token),
+        Outcome::Learned(_) => learn(started, row, token),
         Outcome::Kept | Outcome::Known | Outcome::Waits | Outcome::Stale => {}
     }
     Ok(outcome)

@@ -10,19 +10,3 @@ impl Turn {
         let Turn { seat: _, round: _ } = self;
     }
 }
-
-/// What a box answers to a frame; an opened turn is handed out, to be ended.
-pub enum Handled {
-    /// The order is now among the unordered entries.
-    Kept,
-    /// The order's id is unordered or in the log already.
-    Known,
-    /// The token is not for now; the record stays.
-    Waits,
-    /// The token is far behind and has no more decisions than the log.
-    Stale,
-    /// The token is far behind, and the log now has so many more decisions.
-    Learned(u8),
-    /// A turn is open.
-    Opened(Turn),
-}

@@ -1,18 +1,18 @@
 -- How writing ends.
-use Rattle.std.proofs.Common.{◌≡◌, ℕ, ◌+◌, ◌*◌, ◌<◌, ◌≤◌, not, List, ◌++◌, length, take, drop, is_some, Some, None, Ok, Err, Decides, Option, sym, refl, ap, ◌∙◌, arith}
+use Rattle.std.proofs.Common.{◌≡◌, ℕ, ◌<◌, ◌≤◌, not, List, ◌++◌, length, take, drop, is_some, Some, None, Ok, Err, Decides, Option, sym, refl, ap, ◌∙◌, arith}
 use Rattle.std.specs.Option.{option_map}
 use Rattle.std.proofs.lemmas.List.{take_at}
 use Rattle.std.proofs.lemmas.Bool.{cond-true, cond-false, le-ltb, lt-ltb, eq-eqb, true≢false}
 use Rattle.frames.specs.declared.plan.Plan.{Plan}
 use Rattle.frames.specs.declared.FrameFault.{FrameFault}
-use Rattle.frames.specs.Contents.{Content, LawfulToken, bytes_of}
+use Rattle.frames.specs.Contents.{Content, bytes_of}
 use Rattle.frames.specs.Reading.{read_as}
 use Rattle.writing.specs.declared.WriteFault.{WriteFault}
 use Rattle.writing.specs.declared.WriteFault.TheVariants as refused
 use Rattle.frames.specs.Contents.Content.{token}
 use Rattle.writing.specs.declared.Draft.{Draft}
 use Rattle.writing.specs.Parted.{drafted}
-use Rattle.writing.specs.Checked.{Shaped, Faultless, Sound, LawfulDraft}
+use Rattle.writing.specs.Checked.{Faultless, Sound, LawfulDraft}
 use Rattle.writing.specs.Written.{refusal, answer, buffer, Writes, shape_fault, draft_fault, content_fault, first_of, fault_of}
 use Rattle.frames.proofs.Written.{written}
 
@@ -37,12 +37,6 @@ module _ (p : Plan) (c : Content) (e : Option FrameFault) (out : List ℕ) where
         left = w ∙ ap (λ z. bytes_of p c ++ drop z out) k ∙ sym (ap (λ z. buffer z (bytes_of p c) out) none);
         back = ap (read_as p) (ap (take n) w ∙ take_at (bytes_of p c) (drop n out) n (sym k)) ∙ r;
       }
-
-pub sound : (p : Plan) (d : Draft) (r : Option FrameFault) → Shaped (length d.proposal.now) d.lengths.now (length d.entries.now) →
-    Faultless r (LawfulToken p (drafted d)) → Faultless r (read_as p (bytes_of p (token (drafted d))) ≡ Ok (token (drafted d))) →
-    Faultless r (10 + 9 * length d.proposal.now + (length d.lengths.now + 9 * length d.entries.now) ≤ 1060) → Faultless r (Sound p d)
-sound p d None s l b m = record { shaped = s; lawful = l; back = b; room = m }
-sound p d (Some e) s l b m = tt
 
 -- a lawful draft has no fault
 pub faultless : (p : Plan) (d : Draft) → LawfulDraft p d → draft_fault p d ≡ None

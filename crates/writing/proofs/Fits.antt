@@ -1,5 +1,5 @@
 -- A token at hand that reads back fits a frame's buffer.
-use Rattle.std.proofs.Common.{◌≡◌, ℕ, ◌+◌, ◌*◌, ◌<◌, ◌≤◌, List, [], ◌∷◌, ◌++◌, length, take, drop, set, Ok, sum, sym, ap, arith, length-drop, length-take}
+use Rattle.std.proofs.Common.{◌≡◌, ℕ, ◌+◌, ◌*◌, ◌<◌, ◌≤◌, List, [], ◌∷◌, ◌++◌, length, take, drop, set, Ok, Err, Result, OnOk, sum, sym, ap, arith, length-drop, length-take}
 use Rattle.std.specs.List.{flat_map, AllByRecursion}
 use lib.Seq.{paste}
 use Rattle.std.proofs.lemmas.List.{length-append, take_all}
@@ -7,15 +7,17 @@ use Rattle.std.proofs.ByRecursion.{All-append, All-take, All-drop}
 use Rattle.std.proofs.lemmas.List.Sums.{sum_by-cons}
 use Rattle.frames.specs.declared.plan.Plan.{Plan}
 use Rattle.frames.specs.declared.Entry.{Entry}
+use Rattle.frames.specs.declared.FrameFault.{FrameFault}
 use Rattle.frames.specs.Contents.{Token, Whole, LawfulToken, entry_bytes, decision_bytes, token_bytes, parted}
 use Rattle.frames.specs.Contents.Content.{token}
 use Rattle.frames.specs.Reading.{read_as}
 use Rattle.frames.proofs.Written.{joined_length}
 use Rattle.frames.proofs.Room.{entries_bytes, fits}
 use Rattle.frames.proofs.Back.{Bytes, back}
-use Rattle.writing.specs.Parted.{a_token}
-use Rattle.writing.specs.Checked.{Shaped}
-use Rattle.writing.proofs.Splits.{parted_count}
+use Rattle.writing.specs.Parted.{drafted}
+use Rattle.writing.specs.Checked.{Shaped, Sound, Checks}
+use Rattle.writing.specs.declared.Draft.{Draft}
+use Rattle.writing.proofs.Lists.{parted_count}
 
 parted_bytes : (cs : List ℕ) (es : List Entry) → Bytes cs → AllByRecursion Whole es → Bytes (flat_map decision_bytes (parted cs es))
 parted_bytes [] es b w = tt
@@ -36,25 +38,23 @@ parted_length (c ∷ cs) es w q =
     let all = length-append (flat_map entry_bytes d) (flat_map decision_bytes (parted cs (drop c es))) in
     omega arith
 
-module _ (p : Plan) (sender stamp votes : ℕ) (proposal : List Entry) (lengths : List ℕ) (entries : List Entry)
-    (hs : sender < 256) (hv : votes < 256) (bs : Bytes lengths) (w : AllByRecursion Whole proposal) (v : AllByRecursion Whole entries) (s : Shaped (length proposal) lengths (length entries)) where
+module _ (p : Plan) (d : Draft) (hs : d.sender < 256) (hv : d.votes < 256) (bs : Bytes d.lengths.now) (s : Shaped (length d.proposal.now) d.lengths.now (length d.entries.now)) where
   abbrev t : Token
-  t = a_token sender stamp votes proposal lengths entries
+  t = drafted d
 
-  token-bytes : Bytes (token_bytes p t)
-  token-bytes =
-      let n = parted_count lengths entries in
-      let most = p.most in
-      let few = p.few in
-      let k = s.proposed_fits in
-      let m = s.decided_fits in (
-        omega arith,
-        (
+  module _ (w : AllByRecursion Whole d.proposal.now) (v : AllByRecursion Whole d.entries.now) where
+    token-bytes : Bytes (token_bytes p t)
+    token-bytes =
+        let n = parted_count d.lengths.now d.entries.now in
+        let most = p.most in
+        let few = p.few in
+        let k = s.proposed_fits in
+        let m = s.decided_fits in (
           omega arith,
           (
-            hs,
+            omega arith,
             (
-              omega arith,
+              hs,
               (
                 omega arith,
                 (
@@ -62,12 +62,15 @@ module _ (p : Plan) (sender stamp votes : ℕ) (proposal : List Entry) (lengths 
                   (
                     omega arith,
                     (
-                      hv,
+                      omega arith,
                       (
-                        omega arith,
+                        hv,
                         (
                           omega arith,
-                          All-append (λ x. x < 256) (flat_map entry_bytes proposal) (flat_map decision_bytes (parted lengths entries)) (entries_bytes proposal w) (parted_bytes lengths entries bs v),
+                          (
+                            omega arith,
+                            All-append (λ x. x < 256) (flat_map entry_bytes d.proposal.now) (flat_map decision_bytes (parted d.lengths.now d.entries.now)) (entries_bytes d.proposal.now w) (parted_bytes d.lengths.now d.entries.now bs v),
+                          ),
                         ),
                       ),
                     ),
@@ -76,25 +79,31 @@ module _ (p : Plan) (sender stamp votes : ℕ) (proposal : List Entry) (lengths 
               ),
             ),
           ),
-        ),
-      )
+        )
 
-  token_long : length (token_bytes p t) ≡ 10 + 9 * length proposal + (length lengths + 9 * length entries)
-  token_long =
-      let a = length-append (flat_map entry_bytes proposal) (flat_map decision_bytes (parted lengths entries)) in
-      let e = joined_length proposal w in
-      let d = parted_length lengths entries v s.adds-up in
-      omega arith
+    token_long : length (token_bytes p t) ≡ 10 + 9 * length d.proposal.now + (length d.lengths.now + 9 * length d.entries.now)
+    token_long =
+        let a = length-append (flat_map entry_bytes d.proposal.now) (flat_map decision_bytes (parted d.lengths.now d.entries.now)) in
+        let e = joined_length d.proposal.now w in
+        let d = parted_length d.lengths.now d.entries.now v s.adds-up in
+        omega arith
 
-  pub lawful : read_as p (token_bytes p t) ≡ Ok (token t) → LawfulToken p t
-  lawful q = (back p (token_bytes p t) (token t) token-bytes q).1
+    lawful : read_as p (token_bytes p t) ≡ Ok (token t) → LawfulToken p t
+    lawful q = (back p (token_bytes p t) (token t) token-bytes q).1
 
-  pub room : read_as p (token_bytes p t) ≡ Ok (token t) → 10 + 9 * length proposal + (length lengths + 9 * length entries) ≤ 1060
-  room q =
-      let most = p.most in
-      let f = (fits p (token t) (omega arith) (omega (arith, p.few)) (lawful q)).1 in
-      let n = token_long in
-      omega arith
+    room : read_as p (token_bytes p t) ≡ Ok (token t) → 10 + 9 * length d.proposal.now + (length d.lengths.now + 9 * length d.entries.now) ≤ 1060
+    room q =
+        let most = p.most in
+        let f = (fits p (token t) (omega arith) (omega (arith, p.few)) (lawful q)).1 in
+        let n = token_long in
+        omega arith
+
+    sound : read_as p (token_bytes p t) ≡ Ok (token t) → Sound p d
+    sound q = record { shaped = s; lawful = lawful q; back = q; room = room q }
+
+  pub sound_if : (r : Result (Unit {0}) FrameFault) → Checks (read_as p (token_bytes p t)) (token t) r → OnOk r (AllByRecursion Whole d.proposal.now × AllByRecursion Whole d.entries.now) → OnOk r (Sound p d)
+  sound_if (Ok u) q w = sound w.0 w.1 q
+  sound_if (Err e) q w = tt
 
 -- an order frame at the front
 pub order_front : (out : List ℕ) (b : ℕ) (E : List ℕ) → 2 ≤ length out → length E ≡ 9 → paste (set (set out 0 1) 1 b) 2 E 9 ≡ (1 ∷ b ∷ E) ++ drop 11 out

@@ -1,8 +1,6 @@
 mod Pastes
-mod Splits
-mod Walked
-mod Decided
+mod Cuts
+mod Steps
 mod Lists
-mod Heads
+mod Fits
 pub mod Endings
-pub mod Fits

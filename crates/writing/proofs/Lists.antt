@@ -1,56 +1,129 @@
--- Reading a token's lists, put together from the walks over them.
-use Rattle.std.proofs.Common.{◌≡◌, ℕ, ◌^◌, ◌<◌, Bool, List, [], ◌∷◌, ◌++◌, length, drop, Ok, Err, Result, sym, ap, ◌∙◌}
+-- What reading the bytes of a draft gives, when its parts are walked over.
+use Rattle.std.proofs.Common.{◌≡◌, ℕ, suc, ◌^◌, ◌<◌, ◌≤◌, Bool, cond, ltb, leb, List, [], ◌∷◌, ◌++◌, length, take, drop, Ok, Err, Result, OnOk, sym, refl, ap, ◌∙◌, subst, inl, inr, arith}
 use Rattle.std.specs.List.{flat_map, AllByRecursion}
 use Rattle.std.proofs.ByRecursion.{All-take, All-drop}
+use Rattle.std.proofs.lemmas.Bool.{cond-false, le-ltb}
+use Rattle.std.proofs.lemmas.List.{take_all, append-nil}
+use Rattle.frames.specs.declared.Cause.TheVariants as cause
 use Rattle.frames.specs.declared.plan.Plan.{Plan}
 use Rattle.frames.specs.declared.Entry.{Entry}
 use Rattle.frames.specs.declared.FrameFault.{FrameFault}
-use Rattle.frames.specs.Contents.{Token, Whole, entry_bytes, decision_bytes, token_bytes, parted}
-use Rattle.frames.specs.Contents.Content.{token}
-use Rattle.frames.specs.Reading.{Rest, entries_as, decisions_as, and_then, ended, lists_as, token_in}
+use Rattle.frames.specs.Contents.{Token, Content, Whole, entry_bytes, decision_bytes, token_bytes, bytes_of, parted}
+use Rattle.frames.specs.Contents.Content.{order, token}
+use Rattle.frames.specs.Reading.{Rest, entries_as, decisions_as, and_then, ended, entry_in, fault_at, lists_as, read_as, token_in, bad_round, bad_votes, bad_proposed, bad_decided}
 use Rattle.frames.proofs.Steps.{through}
-use Rattle.frames.proofs.Written.{append_none, token-in}
-use Rattle.writing.specs.Checked.{Checked, Ended, Listed}
-use Rattle.writing.specs.Parted.{a_token}
-use Rattle.writing.proofs.Splits.{parted_count}
+use Rattle.frames.proofs.Written.{by_kind, four, token-in}
+use Rattle.reading.specs.declared.head.Head.{Head}
+use Rattle.reading.specs.Heads.{head_in, head_as, number_as}
+use Rattle.reading.proofs.Heads.{headed}
+use Rattle.writing.specs.declared.Draft.{Draft}
+use Rattle.writing.specs.declared.walk.Walk.{Walk}
+use Rattle.writing.specs.Checked.{Checks, head_of}
+use Rattle.writing.specs.Parted.{drafted}
+use Rattle.writing.specs.Walking.{rest_of, Walks}
+use Rattle.writing.specs.Written.{fault_of}
+use Rattle.writing.proofs.Steps.{stood, fell}
 
-pub whole_parts : (cs : List ℕ) (es : List Entry) → AllByRecursion Whole es → AllByRecursion (AllByRecursion Whole) (parted cs es)
+-- An order frame
+
+module _ (p : Plan) (e : Entry) where
+  abbrev first : Rest
+  first = record { at = 2; bytes = entry_bytes e; met = [] }
+
+  by_entry : read_as p (bytes_of p (order e)) ≡ and_then (entries_as p 1 0 first) (ended (order (entry_in (entry_bytes e))))
+  by_entry = by_kind p (bytes_of p (order e)) (omega arith) refl 1 (inl refl) refl
+
+  pub order_fails : (f : FrameFault) → entries_as p 1 0 first ≡ Err f → read_as p (bytes_of p (order e)) ≡ Err f
+  order_fails f q = by_entry ∙ ap (λ z. and_then z (ended (order (entry_in (entry_bytes e))))) q
+
+  pub order_passes : (s : Rest) → entries_as p 1 0 first ≡ Ok s → s.bytes ≡ [] → length e.body ≡ 8 → read_as p (bytes_of p (order e)) ≡ Ok (order e)
+  order_passes s q none eight =
+      let all : take 8 e.body ≡ e.body = take_all 8 e.body (omega arith) in
+      by_entry ∙ through _ (ended (order (entry_in (entry_bytes e)))) s q
+      ∙ ap (λ z. cond (ltb 0 (length z)) (fault_at s.at cause.Length) (Ok (order (entry_in (entry_bytes e))))) none
+      ∙ (λ i. Ok (order (record { id = e.id; body = all i })))
+
+  pub order_checked : (w after : Walk) (r : Result (Unit {0}) FrameFault) → w.at ≡ 2 → w.ids.last ≡ 0 → Whole e →
+      Walks p (entries_as p 1 w.ids.last (rest_of w (entry_bytes e ++ []) [])) [] r after → Checks (read_as p (bytes_of p (order e))) (order e) r
+  order_checked w after r place last whole k =
+      let here : entries_as p 1 w.ids.last (rest_of w (entry_bytes e ++ []) []) ≡ entries_as p 1 0 first = λ i. entries_as p 1 (last i) (record { at = place i; bytes = append-nil (entry_bytes e) i; met = [] }) in
+      ends r (subst (λ z. Walks p z [] r after) here k)
+    where
+      ends : (r : Result (Unit {0}) FrameFault) → Walks p (entries_as p 1 0 first) [] r after → Checks (read_as p (bytes_of p (order e))) (order e) r
+      ends (Ok u) k = let one = stood p _ [] after k in order_passes one.rest one.is (ap (λ (z : Rest). z.bytes) one.here.rest) whole.eight
+      ends (Err f) k = order_fails f (fell p _ [] f after k)
+
+-- A token
+
+pub parted_count : (cs : List ℕ) (es : List Entry) → length (parted cs es) ≡ length cs
+parted_count [] es = refl
+parted_count (c ∷ cs) es = ap suc (parted_count cs (drop c es))
+
+whole_parts : (cs : List ℕ) (es : List Entry) → AllByRecursion Whole es → AllByRecursion (AllByRecursion Whole) (parted cs es)
 whole_parts [] es w = tt
 whole_parts (c ∷ cs) es w = (All-take Whole c es w, whole_parts cs (drop c es) (All-drop Whole c es w))
 
-module _ (p : Plan) (sender stamp votes : ℕ) (proposal : List Entry) (lengths : List ℕ) (entries : List Entry) where
+-- all the bytes of the head are there
+number_long : (n end place : ℕ) (bad : Bool) → end ≤ n → number_as n end place bad ≡ cond bad (fault_at place cause.Range) (Ok tt)
+number_long n end place bad h = cond-false _ _ _ (le-ltb n end h)
+
+head_long : (p : Plan) (h : Head) (n : ℕ) → 10 ≤ n → head_as p h n ≡ head_as p h 10
+head_long p h n le = λ i.
+    and_then (number_long n 3 2 (leb p.n h.sender) (omega arith) i)
+    (λ _. and_then (number_long n 7 3 (bad_round p h.sender h.stamp) (omega arith) i)
+    (λ _. and_then (number_long n 8 7 (bad_votes p h.stamp h.votes) (omega arith) i)
+    (λ _. and_then (number_long n 9 8 (bad_proposed h.stamp h.votes h.proposed) (omega arith) i)
+    (λ _. number_long n 10 9 (bad_decided h.stamp h.decided) (omega arith) i))))
+
+module _ (p : Plan) (d : Draft) (h : d.stamp < 2 ^ 32) where
   abbrev t : Token
-  t = a_token sender stamp votes proposal lengths entries
+  t = drafted d
+
+  abbrev bs : List ℕ
+  bs = token_bytes p t
 
   abbrev D : List ℕ
-  D = flat_map decision_bytes (parted lengths entries)
+  D = flat_map decision_bytes (parted d.lengths.now d.entries.now)
+
+  -- the head first, and then the lists
+  by_head : read_as p bs ≡ and_then (head_as p (head_of d) 10) (λ _. lists_as p bs)
+  by_head =
+      let stamp = four d.stamp h in
+      let count = parted_count d.lengths.now d.entries.now in
+      let head : head_in bs ≡ head_of d = λ i. record { sender = d.sender; stamp = stamp i; votes = d.votes; proposed = length d.proposal.now; decided = count i } in
+      by_kind p bs (omega arith) refl 2 (inr refl) refl ∙ headed p bs
+      ∙ ap (λ z. and_then z (λ _. lists_as p bs)) (head_long p (head_in bs) (length bs) (omega arith) ∙ ap (λ z. head_as p z 10) head)
+
+  pub head_fails : (e : FrameFault) → Err e ≡ head_as p (head_of d) 10 → read_as p bs ≡ Err e
+  head_fails e q = by_head ∙ ap (λ z. and_then z (λ _. lists_as p bs)) (sym q)
+
+  pub head_passes : Ok tt ≡ head_as p (head_of d) 10 → read_as p bs ≡ lists_as p bs
+  head_passes q = by_head ∙ ap (λ z. and_then z (λ _. lists_as p bs)) (sym q)
 
   abbrev start : Rest
-  start = record { at = 10; bytes = flat_map entry_bytes proposal ++ D; met = [] }
+  start = record { at = 10; bytes = flat_map entry_bytes d.proposal.now ++ D; met = [] }
 
-  abbrev decided : ℕ → List ℕ → Rest
-  decided n met = record { at = n; bytes = D ++ []; met = met }
+  pub proposal_fails : (e : FrameFault) → entries_as p (length d.proposal.now) 0 start ≡ Err e → lists_as p bs ≡ Err e
+  proposal_fails e q = ap (λ z. and_then (and_then z (decisions_as p (length (parted d.lengths.now d.entries.now)))) (ended (token (token_in bs)))) q
 
-  pub proposal_fails : (e : FrameFault) → entries_as p (length proposal) 0 start ≡ Err e → lists_as p (token_bytes p t) ≡ Err e
-  proposal_fails e q = ap (λ z. and_then (and_then z (decisions_as p (length (parted lengths entries)))) (ended (token (token_in (token_bytes p t))))) q
+  module _ (s : Rest) (q : entries_as p (length d.proposal.now) 0 start ≡ Ok s) where
+    on : and_then (entries_as p (length d.proposal.now) 0 start) (decisions_as p (length (parted d.lengths.now d.entries.now))) ≡ decisions_as p (length d.lengths.now) s
+    on = through _ (decisions_as p (length (parted d.lengths.now d.entries.now))) s q ∙ ap (λ z. decisions_as p z s) (parted_count d.lengths.now d.entries.now)
 
-  module _ (n : ℕ) (met : List ℕ) (q : entries_as p (length proposal) 0 start ≡ Ok (record { at = n; bytes = D; met = met })) where
-    on : and_then (entries_as p (length proposal) 0 start) (decisions_as p (length (parted lengths entries))) ≡ decisions_as p (length lengths) (decided n met)
-    on = through _ (decisions_as p (length (parted lengths entries))) _ q ∙ (λ i. decisions_as p (parted_count lengths entries i) (record { at = n; bytes = sym (append_none D) i; met = met }))
+    lists_fail : (e : FrameFault) → decisions_as p (length d.lengths.now) s ≡ Err e → lists_as p bs ≡ Err e
+    lists_fail e r = ap (λ z. and_then z (ended (token (token_in bs)))) (on ∙ r)
 
-    pub lists_fail : (e : FrameFault) → decisions_as p (length lengths) (decided n met) ≡ Err e → lists_as p (token_bytes p t) ≡ Err e
-    lists_fail e r = ap (λ z. and_then z (ended (token (token_in (token_bytes p t))))) (on ∙ r)
+    lists_pass : (u : Rest) → decisions_as p (length d.lengths.now) s ≡ Ok u → u.bytes ≡ [] → AllByRecursion Whole d.proposal.now → AllByRecursion Whole d.entries.now → lists_as p bs ≡ Ok (token t)
+    lists_pass u r none w v =
+        through _ (ended (token (token_in bs))) u (on ∙ r)
+        ∙ ap (λ z. cond (ltb 0 (length z)) (fault_at u.at cause.Length) (Ok (token (token_in bs)))) none
+        ∙ ap (λ z. Ok (token z)) (token-in p t h w (whole_parts d.lengths.now d.entries.now v))
 
-    pub lists_pass : (m : ℕ) (after : List ℕ) → decisions_as p (length lengths) (decided n met) ≡ Ok (record { at = m; bytes = []; met = after }) →
-        stamp < 2 ^ 32 → AllByRecursion Whole proposal → AllByRecursion Whole entries → lists_as p (token_bytes p t) ≡ Ok (token t)
-    lists_pass m after r h w v =
-        through _ (ended (token (token_in (token_bytes p t)))) _ (on ∙ r) ∙ ap (λ z. Ok (token z)) (token-in p t h w (whole_parts lengths entries v))
+    pub lists_end : (r : Result (Unit {0}) FrameFault) (after : Walk) → Walks p (decisions_as p (length d.lengths.now) s) [] r after →
+        AllByRecursion Whole d.proposal.now → OnOk r (AllByRecursion Whole d.entries.now) → Checks (lists_as p bs) (token t) r
+    lists_end (Ok u) after k w v = let one = stood p _ [] after k in lists_pass one.rest one.is (ap (λ (z : Rest). z.bytes) one.here.rest) w v
+    lists_end (Err e) after k w v = lists_fail e (fell p _ [] e after k)
 
-    pub lists_end : (r : Result ℕ FrameFault) (table : List Bool) → Checked (decisions_as p (length lengths) (decided n met)) [] r table → Ended r (λ _. AllByRecursion Whole entries) →
-        stamp < 2 ^ 32 → AllByRecursion Whole proposal → Listed (lists_as p (token_bytes p t)) (token t) r
-    lists_end (Ok m) table c w h v = lists_pass m c.0 c.1 h v w
-    lists_end (Err e) table c w h v = lists_fail e c
-
-pub both_whole : (proposal entries : List Entry) (r : Result ℕ FrameFault) → AllByRecursion Whole proposal → Ended r (λ _. AllByRecursion Whole entries) → Ended r (λ _. AllByRecursion Whole proposal × AllByRecursion Whole entries)
-both_whole proposal entries (Ok m) w v = (w, v)
-both_whole proposal entries (Err e) w v = tt
+pub fault_found : (w : Result Content FrameFault) (c : Content) (r : Result (Unit {0}) FrameFault) → Checks w c r → fault_of r ≡ fault_of w
+fault_found w c (Ok u) h = sym (ap fault_of h)
+fault_found w c (Err e) h = sym (ap fault_of h)

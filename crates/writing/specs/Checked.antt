@@ -1,39 +1,22 @@
--- What the walk over contents finds, beside what reading their bytes would.
-use Rattle.std.specs.Prelude.{◌≡◌, ℕ, ◌+◌, ◌*◌, ◌≤◌, Bool, cond, List, length, Some, None, Ok, Err, sum, Option, Result, nat_le}
+-- What checking a draft finds, beside what reading its bytes would.
+use Rattle.std.specs.Prelude.{◌≡◌, ℕ, ◌+◌, ◌*◌, ◌≤◌, List, length, Some, None, Ok, Err, sum, Option, Result}
 use Rattle.frames.specs.declared.plan.Plan.{Plan}
 use Rattle.frames.specs.declared.FrameFault.{FrameFault}
-use Rattle.frames.specs.declared.Cause.TheVariants as cause
 use Rattle.frames.specs.Contents.{Content, LawfulToken, bytes_of}
 use Rattle.frames.specs.Contents.Content.{token}
-use Rattle.frames.specs.Reading.{Rest, read_as, bad_round, bad_votes, bad_proposed, bad_decided}
-use Rattle.reading.specs.Walking.{Marks}
+use Rattle.frames.specs.Reading.{read_as}
+use Rattle.reading.specs.declared.head.Head.{Head}
 use Rattle.writing.specs.declared.Draft.{Draft}
 use Rattle.writing.specs.Parted.{drafted}
-use Rattle.writing.specs.Written.{fault}
 
--- the place after what was walked, where reading goes on with what is left; or the fault
-abbrev pub Checked : Result Rest FrameFault → List ℕ → Result ℕ FrameFault → List Bool → Type 0
-Checked w left (Ok n) table = (met : List ℕ) × (w ≡ Ok (record { at = n; bytes = left; met = met })) × Marks table met
-Checked w left (Err e) table = w ≡ Err e
+-- the numbers of a draft's head
+abbrev pub head_of : Draft → Head
+head_of d = record { sender = d.sender; stamp = d.stamp; votes = d.votes; proposed = length d.proposal.now; decided = length d.lengths.now }
 
--- what holds of the place where a walk ended
-abbrev pub Ended : Result ℕ FrameFault → (ℕ → Type 0) → Type 0
-Ended (Ok n) P = P n
-Ended (Err e) P = Unit {0}
-
--- the first fault among the numbers of a token's head
-abbrev pub numbers_fault : Plan → (sender stamp votes proposed decided : ℕ) → Option FrameFault
-numbers_fault p sender stamp votes proposed decided =
-    cond (nat_le p.n sender) (fault 2 cause.Range)
-    (cond (bad_round p sender stamp) (fault 3 cause.Range)
-    (cond (bad_votes p stamp votes) (fault 7 cause.Range)
-    (cond (bad_proposed stamp votes proposed) (fault 8 cause.Range)
-    (cond (bad_decided stamp decided) (fault 9 cause.Range) None))))
-
--- what reading the lists of a token's bytes gives: its contents, or the fault
-abbrev pub Listed : Result Content FrameFault → Content → Result ℕ FrameFault → Type 0
-Listed w c (Ok n) = w ≡ Ok c
-Listed w c (Err e) = w ≡ Err e
+-- a check answers as reading does: that the contents read as themselves, or the fault
+abbrev pub Checks : Result Content FrameFault → Content → Result (Unit {0}) FrameFault → Type 0
+Checks w c (Ok u) = w ≡ Ok c
+Checks w c (Err e) = w ≡ Err e
 
 -- what holds where no fault was found
 abbrev pub Faultless : Option FrameFault → Type 0 → Type 0

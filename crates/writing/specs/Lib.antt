@@ -1,3 +1,4 @@
 pub mod Parted
 pub mod Written
+pub mod Walking
 pub mod Checked

@@ -1,21 +1,31 @@
 #![tactic(auto)]
 
-ghost use Rattle.std.specs.Prelude.{◌≡◌, Decides};
+ghost use Rattle.std.specs.Prelude.{◌≡◌, Decides, OnOk, IfOk};
 ghost use Rattle.frames.specs.Contents.Content.{order, token};
+ghost use Rattle.writing.specs.declared.WriteFault.TheVariants as refused;
 ghost use Rattle.writing.specs.Parted.{drafted};
-ghost use Rattle.writing.specs.Written.{write_row, content_fault, draft_fault, Writes};
+ghost use Rattle.writing.specs.Written.{write_row, content_fault, draft_fault, fault_of, Writes};
 ghost use Rattle.writing.specs.Checked.{Faultless, Sound, LawfulDraft};
 
-use frames::{Entry, FRAME_MAX, FrameFault, Plan};
+use frames::{Entry, FRAME_MAX, FrameFault, FrameKind, Plan, Refusal};
 
 mod bytes;
 mod checks;
+mod counted;
+mod walk;
 
 use bytes::{write_entry, write_parts};
-use checks::{content_fault, order_fault, shape_fault};
+use checks::{check_contents, check_order};
+use counted::Counted;
+
+/// The bytes of an order frame before its entry.
+const ORDER_HEAD: usize = 2;
+
+/// The bytes of a token's head.
+const HEAD: usize = 10;
 
 /// Why contents were not written.
-#[derive(Clone, Copy)]
+#[derive(Clone, Copy, Debug, PartialEq, Eq)]
 pub enum WriteFault {
     /// The buffer has under 1,060 bytes.
     Short,
@@ -23,8 +33,9 @@ pub enum WriteFault {
     Frame(FrameFault),
 }
 
-/// A token to be written; its decisions stand as all their entries beside their lengths.
-#[derive(Clone, Copy)]
+/// A token to be written.
+/// Its decisions stand as all their entries beside their lengths, since the logs keep them in tables of fixed size.
+#[derive(Clone, Copy, Debug, PartialEq, Eq)]
 pub struct Draft<'a> {
     pub sender: u8,
     pub stamp: u32,
@@ -34,15 +45,22 @@ pub struct Draft<'a> {
     pub entries: &'a [Entry],
 }
 
-impl WriteFault {
-    /// The number of the refusal.
-    pub fn row(&self) -> u8
-        ensures { result ≡ write_row self.now }
-    {
+impl Refusal for WriteFault {
+    ghost number = { write_row };
+
+    fn row(&self) -> u8 {
         match *self {
             WriteFault::Short => 1,
             WriteFault::Frame(fault) => fault.row(),
         }
+    }
+}
+
+impl From<FrameFault> for WriteFault {
+    ghost from_gives = { λ fault e. e ≡ refused.Frame fault };
+
+    fn from(fault: FrameFault) -> WriteFault {
+        WriteFault::Frame(fault)
     }
 }
 
@@ -53,12 +71,10 @@ pub fn write_order(plan: &Plan, entry: &Entry, out: &mut [u8]) -> Result<usize, 
     if out.len() < FRAME_MAX {
         return Err(WriteFault::Short);
     }
-    if let Some(fault) = order_fault(plan, entry) {
-        return Err(WriteFault::Frame(fault));
-    }
-    out[0] = 1;
+    check_order(plan, entry)?;
+    out[0] = FrameKind::Order as u8;
     out[1] = plan.byte();
-    write_entry(out, 2, entry);
+    write_entry(out, ORDER_HEAD, entry);
     Ok(11)
 }
 
@@ -67,18 +83,7 @@ pub fn draft_fault(plan: &Plan, draft: &Draft) -> Option<FrameFault>
     ensures value { result ≡ draft_fault plan.now draft.now }
     ensures sound { Faultless result (Sound plan.now draft.now) }
 {
-    let Draft {
-        sender,
-        stamp,
-        votes,
-        proposal,
-        lengths,
-        entries,
-    } = *draft;
-    if let Some(fault) = shape_fault(proposal.len(), lengths, entries.len()) {
-        return Some(fault);
-    }
-    content_fault(plan, sender, stamp, votes, proposal, lengths, entries)
+    check_draft(plan, draft).err()
 }
 
 /// Whether a draft is a lawful token of the plan.
@@ -95,16 +100,17 @@ pub fn write_token(plan: &Plan, draft: &Draft, out: &mut [u8]) -> Result<usize, 
     if out.len() < FRAME_MAX {
         return Err(WriteFault::Short);
     }
-    if let Some(fault) = draft_fault(plan, draft) {
-        return Err(WriteFault::Frame(fault));
-    }
-    let Draft {
-        sender,
-        stamp,
-        votes,
-        proposal,
-        lengths,
-        entries,
-    } = *draft;
-    Ok(write_parts(out, plan, sender, stamp, votes, proposal, lengths, entries))
+    let counted = check_draft(plan, draft)?;
+    Ok(write_parts(out, plan, &counted))
+}
+
+/// Checks a draft's counts, and then the bytes that it would have.
+fn check_draft<'a>(plan: &Plan, draft: &'a Draft<'a>) -> Result<Counted<'a>, FrameFault>
+    ensures value { fault_of result ≡ draft_fault plan.now draft.now }
+    ensures sound { OnOk result (Sound plan.now draft.now) }
+    ensures same { IfOk result (λ c. c.draft.now ≡ draft.now) }
+{
+    let counted = Counted::of(draft)?;
+    check_contents(plan, &counted)?;
+    Ok(counted)
 }

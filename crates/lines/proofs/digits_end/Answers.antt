@@ -1,18 +1,19 @@
-use Rattle.std.proofs.Common.{is_some, sym, ap, ◌∙◌, arith}
-use Rattle.std.proofs.lemmas.List.{drop_all}
-use Rattle.lines.specs.Digits.{digits_end}
-use Rattle.lines.proofs.Steps.{digits_more, digits_stop}
+use Rattle.std.proofs.Common.{◌≡◌, ℕ, ◌+◌, true, false, List, ◌∷◌, sym, refl, ◌∙◌, arith, rules}
+use Rattle.std.proofs.lemmas.Bool.{cond-true, cond-false}
+use Rattle.std.proofs.lemmas.Iterator.{IsFirst-from_position, YieldsList-from_slice, index_from_first}
+use borrow.Author.Tests.{tests}
+use Rattle.lines.specs.Digits.{is_digit, digits_end}
 use Rattle.lines.proofs.digits_end.Goals as goal
 
-pub returns-then-is_none : goal.returns-then-is_none
-returns-then-is_none c =
-    let d = sym (ap is_some c.digit_value.ensures) ∙ c.if-is_none.ensures in
-    sym (digits_stop c.args.line.now c.loop-i.i c.loop-i-test.true d) ∙ c.loop-i.invariant
+stops : (c : ℕ) (cs : List ℕ) → is_digit c ≡ false → digits_end (c ∷ cs) ≡ 0
+stops c cs d = cond-false (is_digit c) (1 + digits_end cs) 0 d
 
-pub loop-i-preserved : goal.loop-i-preserved
-loop-i-preserved c =
-    let d = sym (ap is_some c.digit_value.ensures) ∙ c.if-is_none.ensures in
-    sym (digits_more c.args.line.now c.loop-i.i c.loop-i-test.true d) ∙ c.loop-i.invariant
+goes : (c : ℕ) (cs : List ℕ) → is_digit c ≡ true → digits_end (c ∷ cs) ≡ digits_end cs + 1
+goes c cs d = let more = cond-true (is_digit c) (1 + digits_end cs) 0 d in omega arith
 
 pub returns : goal.returns
-returns c = let e = ap digits_end (drop_all c.loop-i.i c.args.line.now c.loop-i-test.false) in omega (arith, c.loop-i.invariant)
+returns c =
+    let cs = c.args.line.now in
+    let first = IsFirst-from_position _ _ c.position.result (λ x. is_digit x ≡ false) (λ x. is_digit x ≡ true) c.position.ensures.ran
+    (YieldsList-from_slice cs cc) (λ x q k. search (rules, tests)) (λ x q k. search (rules, tests)) in
+    c.unwrap_or.ensures ∙ sym (index_from_first digits_end (λ x. is_digit x ≡ false) (λ x. is_digit x ≡ true) refl stops goes cs c.position.result first)

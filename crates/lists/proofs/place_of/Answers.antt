@@ -1,17 +1,14 @@
-use Rattle.std.proofs.Common.{◌<◌, length, arith}
-use Rattle.lists.proofs.Inserts.{place_more, place_here, place_end}
+use Rattle.std.proofs.Common.{◌≡◌, rules, ltb}
+use borrow.Author.Tests.{tests}
+use Rattle.std.specs.List.{position}
+use Rattle.std.proofs.lemmas.Iterator.{YieldsList-from_slice}
+use Rattle.std.proofs.lemmas.Iterator.Search.{position_from_yields_List}
+use Rattle.frames.specs.declared.Entry.{Entry}
+use Rattle.lists.proofs.Inserts.{place_found}
 use Rattle.lists.proofs.place_of.Goals as goal
 
-pub loop-i-preserved : goal.loop-i-preserved
-loop-i-preserved c =
-    let h : c.loop-i.i < length c.args.entries.now = omega arith in
-    (omega arith, place_more _ _ _ c.loop-i.invariant.1 _ h c.if-entries-i.true)
-
-pub returns-else-entries-i : goal.returns-else-entries-i
-returns-else-entries-i c =
-    let h : c.loop-i.i < length c.args.entries.now = omega arith in
-    record { within = omega arith; place = place_here _ _ _ c.loop-i.invariant.1 _ h c.if-entries-i.false }
-
-pub returns-after-loop-i : goal.returns-after-loop-i
-returns-after-loop-i c =
-    record { within = omega arith; place = place_end c.args.e c.args.entries.now c.loop-i.i c.loop-i.invariant.1 (omega arith) }
+pub returns-clause-place : goal.returns-clause-place
+returns-clause-place c =
+    let found : c.position.result ≡ position (λ (x : Entry). ltb c.args.e.id x.id) c.args.entries.now =
+    position_from_yields_List (λ (x : Entry). ltb c.args.e.id x.id) _ _ c.position.result c.position.ensures.ran (YieldsList-from_slice c.args.entries.now cc) (λ x b q k. search (rules, tests)) in
+    rw c.unwrap_or.ensures (place_found c.args.e c.args.entries.now c.position.result found)

@@ -3,5 +3,5 @@ use Rattle.parts.specs.Going.{decision_at}
 use Rattle.parts.proofs.decision_at.Given as goal
 
 -- what is left gives what the whole gives
-abbrev pub invariant-loop-j : goal.invariant-loop-j
-invariant-loop-j l = decision_at (l.k - l.j) l.left ≡ decision_at l.k l.decisions
+abbrev pub invariant-loop : goal.invariant-loop
+invariant-loop l = decision_at (l.k - l.counter) l.left ≡ decision_at l.k l.decisions

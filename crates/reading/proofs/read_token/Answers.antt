@@ -1,52 +1,80 @@
-use Rattle.std.proofs.Common.{◌≡◌, ◌+◌, ◌-◌, ◌<◌, ◌≤◌, [], length, get_or, take, drop, Ok, sym, ap, ◌∙◌, arith}
+use Rattle.std.proofs.Common.{◌≡◌, ◌-◌, [], get_or, take, drop, Ok, sym, ap, ◌∙◌, arith}
 use Rattle.std.proofs.lemmas.Result.{err_from_is_err_and}
-use Rattle.std.proofs.lemmas.List.{take_rest, drop-drop}
-use Rattle.frames.specs.declared.Cause.TheVariants as cause
-use Rattle.frames.specs.Reading.{fault_at, decisions_as}
-use Rattle.reading.specs.Walking.{rest_at}
+use Rattle.std.proofs.lemmas.List.{take_rest}
 use Rattle.frames.specs.Views.{shown_as}
 use Rattle.frames.specs.Views.View.{a_token}
-use Rattle.reading.proofs.Walk.{walked_ok, walked_err}
-use Rattle.reading.proofs.Whole.{none_marked, lists_fail, decisions_fail_whole, token_surplus, token_told}
+use Rattle.reading.proofs.Heads.{head_passes, head_fails}
+use Rattle.reading.proofs.Walk.{listed, unlisted, settled, unsettled}
+use Rattle.reading.proofs.Whole.{unfinished, finished, middle, lists_fail, decisions_fail, token_ends, token_shown}
 use Rattle.reading.proofs.read_token.Goals as goal
 
-pub returns-in_err-middle : goal.returns-in_err-middle
-returns-in_err-middle c =
+pub returns-in_err-test : goal.returns-in_err-test
+returns-in_err-test c =
     let x = err_from_is_err_and c.from_residual.result c.from_residual.ensures.1 in
-    let head = c.in_default.ensures.1 in
-    let fails = walked_err _ _ _ (c.in_err-middle.ensures.walked [] (none_marked 256)) in
-    rw (x.1, x.2) (sym (ap shown_as (head ∙ lists_fail c.args.plan.now c.args.bytes.now _ fails)))
+    rw (x.1, x.2) (sym (ap shown_as (head_fails c.args.plan.now c.args.bytes.now c.of.result c.of.ensures _ c.in_err-test.ensures)))
+
+pub returns-in_err-entries : goal.returns-in_err-entries
+returns-in_err-entries c =
+    let x = err_from_is_err_and c.from_residual-in_err-entries.result c.from_residual-in_err-entries.ensures.1 in
+    let p = c.args.plan.now in
+    let bs = c.args.bytes.now in
+    let head = head_passes p bs c.of.result c.of.ensures c.in_ok-test.ensures in
+    let new = c.new-reader.ensures in
+    let fails = unlisted p (get_or bs 8 0) 10 bs c.new-reader.result c.entries.new.self new.at new.bytes _ (c.in_err-entries.ensures p [] new.ids) in
+    rw (x.1, x.2) (sym (ap shown_as (head ∙ lists_fail p bs _ fails)))
+
+pub returns-in_err-decisions : goal.returns-in_err-decisions
+returns-in_err-decisions c =
+    let x = err_from_is_err_and c.from_residual-in_err-decisions.result c.from_residual-in_err-decisions.ensures.1 in
+    let p = c.args.plan.now in
+    let bs = c.args.bytes.now in
+    let head = head_passes p bs c.of.result c.of.ensures c.in_ok-test.ensures in
+    let new = c.new-reader.ensures in
+    let one = listed p (get_or bs 8 0) 10 bs c.new-reader.result c.entries.new.self new.at new.bytes (c.in_ok-entries.ensures p [] new.ids) in
+    let fails = unsettled p (get_or bs 9 0) one.rest c.entries.new.self c.decisions.new.self one.here.rest _ (c.in_err-decisions.ensures p one.rest.met one.here.met) in
+    rw (x.1, x.2) (sym (ap shown_as (head ∙ decisions_fail p bs one.rest one.is _ fails)))
 
 pub returns-in_err-end : goal.returns-in_err-end
 returns-in_err-end c =
     let x = err_from_is_err_and c.from_residual-in_err-end.result c.from_residual-in_err-end.ensures.1 in
-    let head = c.in_default.ensures.1 in
-    let stood = walked_ok _ _ _ (c.in_ok-middle.ensures.walked [] (none_marked 256)) in
-    let fails = walked_err _ _ _ (c.in_err-end.ensures.walked stood.rest.met stood.marks) in
-    let at = ap (λ z. decisions_as c.args.plan.now (get_or c.args.bytes.now 9 0) (rest_at z c.args.bytes.now stood.rest.met)) stood.place in
-    rw (x.1, x.2) (sym (ap shown_as (head ∙ decisions_fail_whole c.args.plan.now c.args.bytes.now stood.rest stood.is _ (at ∙ fails))))
+    let p = c.args.plan.now in
+    let bs = c.args.bytes.now in
+    let head = head_passes p bs c.of.result c.of.ensures c.in_ok-test.ensures in
+    let new = c.new-reader.ensures in
+    let one = listed p (get_or bs 8 0) 10 bs c.new-reader.result c.entries.new.self new.at new.bytes (c.in_ok-entries.ensures p [] new.ids) in
+    let two = settled p (get_or bs 9 0) one.rest c.entries.new.self c.decisions.new.self one.here.rest (c.in_ok-decisions.ensures p one.rest.met one.here.met) in
+    let ends = token_ends p bs one.rest one.is two.rest two.is in
+    rw (x.1, x.2) (sym (ap shown_as (head ∙ ends ∙ unfinished _ c.decisions.new.self two.rest two.here.rest _ (sym c.in_err-end.ensures))))
 
-pub returns-then-end-bytes : goal.returns-then-end-bytes
-returns-then-end-bytes c =
-    let head = c.in_default.ensures.1 in
-    let stood = walked_ok _ _ _ (c.in_ok-middle.ensures.walked [] (none_marked 256)) in
-    let ended = walked_ok _ _ _ (c.in_ok-end.ensures.walked stood.rest.met stood.marks) in
-    let at = ap (λ z. decisions_as c.args.plan.now (get_or c.args.bytes.now 9 0) (rest_at z c.args.bytes.now stood.rest.met)) stood.place in
-    let place = ended.place in
-    let far : ended.rest.at < length c.args.bytes.now = omega arith in
-    sym (ap shown_as (head ∙ token_surplus c.args.plan.now c.args.bytes.now stood.rest stood.is ended.rest (at ∙ ended.is) far)
-    ∙ ap (λ z. fault_at z cause.Length) place)
+pub overflow_sub-middle : goal.overflow_sub-middle
+overflow_sub-middle c =
+    let p = c.args.plan.now in
+    let bs = c.args.bytes.now in
+    let new = c.new-reader.ensures in
+    let one = listed p (get_or bs 8 0) 10 bs c.new-reader.result c.entries.new.self new.at new.bytes (c.in_ok-entries.ensures p [] new.ids) in
+    let m = middle p bs one.rest one.is c.entries.new.self one.here.rest in
+    omega arith
+
+pub split_at-requires : goal.split_at-requires
+split_at-requires c =
+    let p = c.args.plan.now in
+    let bs = c.args.bytes.now in
+    let new = c.new-reader.ensures in
+    let one = listed p (get_or bs 8 0) 10 bs c.new-reader.result c.entries.new.self new.at new.bytes (c.in_ok-entries.ensures p [] new.ids) in
+    let m = middle p bs one.rest one.is c.entries.new.self one.here.rest in
+    rw (take_rest bs 10) (omega arith)
 
 pub returns : goal.returns
 returns c =
-    let head = c.in_default.ensures.1 in
-    let told = token_told c.args.plan.now c.args.bytes.now c.in_ok-middle.middle c.in_ok-end.end c.from_be_bytes-stamp.result _ _
-    (c.in_ok-middle.ensures.walked [] (none_marked 256)) c.in_ok-end.ensures.walked c.if-end-bytes.false c.from_be_bytes-stamp.ensures in
+    let p = c.args.plan.now in
     let bs = c.args.bytes.now in
-    let middle = c.in_ok-middle.middle in
-    let past : 10 ≤ middle = c.in_ok-middle.ensures.within.0 in
-    let on : 10 + (middle - 10) ≡ middle = omega arith in
-    let first : c.split_at.result.0.now ≡ take (middle - 10) (drop 10 bs) = c.split_at.ensures.front ∙ ap (take (middle - 10)) (take_rest bs 10) in
-    let second : c.split_at.result.1.now ≡ take (length bs - middle) (drop middle bs) =
-    c.split_at.ensures.back ∙ ap (drop (middle - 10)) (take_rest bs 10) ∙ drop-drop (middle - 10) 10 bs ∙ ap (λ z. drop z bs) on ∙ sym (take_rest bs middle) in
-    (λ i. Ok (a_token (get_or bs 2 0) c.from_be_bytes-stamp.result (get_or bs 7 0) (first i) (get_or bs 9 0) (second i))) ∙ sym (ap shown_as head ∙ told)
+    let head = head_passes p bs c.of.result c.of.ensures c.in_ok-test.ensures in
+    let new = c.new-reader.ensures in
+    let one = listed p (get_or bs 8 0) 10 bs c.new-reader.result c.entries.new.self new.at new.bytes (c.in_ok-entries.ensures p [] new.ids) in
+    let two = settled p (get_or bs 9 0) one.rest c.entries.new.self c.decisions.new.self one.here.rest (c.in_ok-decisions.ensures p one.rest.met one.here.met) in
+    let done = finished _ c.decisions.new.self two.rest two.here.rest (sym c.in_ok-end.ensures) in
+    let told = token_shown p bs one.rest one.is two.rest two.is done.0 done.1 c.entries.new.self one.here.rest in
+    let at = c.entries.new.self.at - 10 in
+    let first : c.split_at.result.0.now ≡ take at (drop 10 bs) = c.split_at.ensures.front ∙ ap (take at) (take_rest bs 10) in
+    let second : c.split_at.result.1.now ≡ drop at (drop 10 bs) = c.split_at.ensures.back ∙ ap (drop at) (take_rest bs 10) in
+    (λ i. Ok (a_token (get_or bs 2 0) (c.from_be_bytes-stamp.ensures i) (get_or bs 7 0) (first i) (get_or bs 9 0) (second i))) ∙ sym (ap shown_as head ∙ told)

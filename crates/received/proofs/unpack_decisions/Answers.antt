@@ -1,17 +1,19 @@
-use Rattle.received.proofs.Logging.{at_start, one-more, at_end, shorter}
+use Rattle.std.proofs.Common.{◌≡◌, true, ap, ◌∙◌, arith}
+use Rattle.logs.specs.Logs.{takes}
+use Rattle.received.proofs.Logging.{RoomAfter, room_after, takes_with_room}
 use Rattle.received.proofs.unpack_decisions.Goals as goal
 
-pub loop-split-init : goal.loop-split-init
-loop-split-init c ds g q = at_start ds _ _ c.new-log.ensures.log c.new-log.ensures.meaning c.new-log.ensures.sound q
+pub returns-in_err-unpack_entries-clause-fits : goal.returns-in_err-unpack_entries-clause-fits
+returns-in_err-unpack_entries-clause-fits c g =
+    let room : RoomAfter c.loop-decision.yielded c.in-Some.decision = room_after _ _ _ _ _ c.loop-decision.invariant.parts c.in-Some.ensures.steps g in
+    let yes = c.in_err-unpack_entries.ensures.fits (omega (arith, room.entries)) in
+    absurd (cc)
 
-pub loop-split-smaller : goal.loop-split-smaller
-loop-split-smaller c = shorter c.loop-split.left.now c.in-Some.split.first.now _ c.in-Some.ensures.value
-
-pub loop-split-preserved : goal.loop-split-preserved
-loop-split-preserved c ds g q =
-    let told = c.append.ensures in
-    one-more ds c.loop-split.left.now c.in-Some.split.rest.now c.in-Some.split.first.now c.unpack_entries-decision.result c.loop-split.log c.append.new.self c.part.result.now c.append.result g
-    c.in-Some.ensures.value c.in-Some.ensures.split c.unpack_entries-decision.ensures c.part.ensures told.answer told.log told.meaning told.sound (c.loop-split.invariant ds g q)
-
-pub returns : goal.returns
-returns c ds g q = at_end ds c.loop-split.left.now _ g c.in_default.ensures.split (c.loop-split.invariant ds g q)
+pub returns-in_err-append-clause-fits : goal.returns-in_err-append-clause-fits
+returns-in_err-append-clause-fits c g =
+    let s = c.loop-decision.invariant in
+    let room : RoomAfter c.loop-decision.yielded c.in-Some.decision = room_after _ _ _ _ _ s.parts c.in-Some.ensures.steps g in
+    let same = c.part.ensures ∙ c.in_ok-unpack_entries.ensures.table.entries in
+    let yes : takes c.loop-decision.log c.part.result.now ≡ true = ap (takes c.loop-decision.log) same ∙ takes_with_room _ _ _ room s.logged s.decided s.counted in
+    let no = c.in_err-append.ensures.answer in
+    absurd (cc)

@@ -1,14 +1,14 @@
-use Rattle.std.proofs.Common.{◌≡◌, List, length}
-use Rattle.std.specs.List.{flat_map}
-use Rattle.frames.specs.declared.Entry.{Entry}
-use Rattle.frames.specs.Contents.{decision_bytes}
-use Rattle.received.specs.Unpacking.{Loggable}
-use Rattle.received.proofs.Logging.{Midway}
+use Rattle.std.proofs.Common.{◌≡◌, ◌++◌, length}
+use Rattle.lists.specs.Tables.{held}
+use Rattle.received.specs.Unpacking.{Logged}
 use Rattle.received.proofs.unpack_decisions.Given as goal
 
--- the log has the first decisions, and the others are left
-abbrev pub invariant-loop-split : goal.invariant-loop-split
-invariant-loop-split l = (ds : List (List Entry)) → Loggable ds → l.decisions ≡ flat_map decision_bytes ds → Midway ds l.left l.log
-
-abbrev pub decreases-loop-split : goal.decreases-loop-split
-decreases-loop-split l = length l.left
+-- the log has the decisions that came and counts them and their entries, and the others are left
+abbrev pub invariant-loop-decision : goal.invariant-loop-decision
+invariant-loop-decision l =
+    record {
+      parts : l.yielded ++ l.decision-iterator ≡ l.fn.decisions;
+      logged : Logged l.yielded l.log;
+      decided : l.log.decided ≡ length l.yielded;
+      counted : l.log.entries.count ≡ length (held l.log.entries);
+    }

@@ -1,4 +1,4 @@
-use Rattle.std.proofs.Common.{◌≡◌, ◌-◌, take, Ok, ap, ◌∙◌, arith}
+use Rattle.std.proofs.Common.{arith}
 use Rattle.std.proofs.lemmas.Result.{err_from_is_err_and}
 use Rattle.inspect.proofs.Asked.{no_plan, bad-line, bad_frame, good_frame}
 use Rattle.inspect.proofs.texts.read_text.Goals as goal
@@ -16,20 +16,14 @@ returns-in_err-n c =
     rw (e.1, e.2)
     (bad-line c.args.text.now split.line.now split.byte c.in_ok-plan.plan c.in_ok-split.ensures c.in_ok-plan.ensures _ _ _ (omega arith) c.in_err-n.ensures.answer)
 
-pub returns-in_err-frame : goal.returns-in_err-frame
-returns-in_err-frame c =
-    let e = err_from_is_err_and c.from_residual-in_err-frame.result c.from_residual-in_err-frame.ensures.1 in
+pub returns-in_err-read : goal.returns-in_err-read
+returns-in_err-read c =
+    let e = err_from_is_err_and c.from_residual-in_err-read.result c.from_residual-in_err-read.ensures.1 in
     let split = c.in_ok-split.split in
-    let n = c.in_ok-n.n in
-    let whole : n ≡ n - 0 = omega arith in
-    let line = c.in_ok-n.ensures.bytes.1 ∙ ap (λ z. Ok (take z c.line_bytes.new.out)) whole in
     rw (e.1, e.2)
-    (bad_frame c.args.text.now split.line.now split.byte c.in_ok-plan.plan c.in_ok-split.ensures c.in_ok-plan.ensures _ line _ c.in_err-frame.ensures.answer)
+    (bad_frame c.args.text.now split.line.now split.byte c.in_ok-plan.plan c.in_ok-split.ensures c.in_ok-plan.ensures _ c.in_ok-n.ensures.bytes.1 _ c.in_err-read.ensures.answer)
 
 pub returns : goal.returns
 returns c =
     let split = c.in_ok-split.split in
-    let n = c.in_ok-n.n in
-    let whole : n ≡ n - 0 = omega arith in
-    let line = c.in_ok-n.ensures.bytes.1 ∙ ap (λ z. Ok (take z c.line_bytes.new.out)) whole in
-    good_frame c.args.text.now split.line.now split.byte c.in_ok-plan.plan c.in_ok-split.ensures c.in_ok-plan.ensures _ line _ c.in_ok-frame.ensures.lawful
+    good_frame c.args.text.now split.line.now split.byte c.in_ok-plan.plan c.in_ok-split.ensures c.in_ok-plan.ensures _ c.in_ok-n.ensures.bytes.1 _ c.in_ok-read.ensures.lawful

@@ -1,15 +1,13 @@
-use Rattle.std.proofs.Common.{sym, ap, ◌∙◌}
-use Rattle.frames.specs.Contents.{has, ids_of}
-use Rattle.lists.proofs.Flags.{has_here, has_next, has_end}
+use Rattle.std.proofs.Common.{rules, eqb, ◌∙◌}
+use borrow.Author.Tests.{tests}
+use Rattle.std.proofs.lemmas.Iterator.{YieldsList-from_slice}
+use Rattle.std.proofs.lemmas.Iterator.Search.{any_from_yields_List}
+use Rattle.frames.specs.declared.Entry.{Entry}
+use Rattle.lists.specs.Tables.{held}
+use Rattle.lists.proofs.Flags.{any_has}
 use Rattle.lists.proofs.Entries.has_id.Goals as goal
-
-pub returns-then-id-e : goal.returns-then-id-e
-returns-then-id-e c =
-    sym (ap (λ l. has c.args.id (ids_of l)) (sym c.part-entries.ensures) ∙ c.loop-e.invariant ∙ has_here _ _ _ _ c.loop-e-test.true c.if-id-e.true)
-
-pub loop-e-preserved : goal.loop-e-preserved
-loop-e-preserved c = c.loop-e.invariant ∙ has_next _ _ _ _ c.loop-e-test.true c.if-id-e.false
 
 pub returns : goal.returns
 returns c =
-    sym (ap (λ l. has c.args.id (ids_of l)) (sym c.part-entries.ensures) ∙ c.loop-e.invariant ∙ has_end _ _ _ c.loop-e-test.false)
+    any_from_yields_List (λ (e : Entry). eqb c.args.id e.id) _ _ c.any.result c.any.ensures.ran (YieldsList-from_slice (held c.args.self.now) cc) (λ x b q k. search (rules, tests))
+    ∙ any_has c.args.id (held c.args.self.now)

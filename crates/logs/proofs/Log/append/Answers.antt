@@ -1,22 +1,26 @@
-use Rattle.std.proofs.Common.{◌+◌, ◌<◌, length, sym, ap, ◌∙◌, arith, false-eqb}
-use borrow.Author.Tests.{true-leb}
-use Rattle.logs.specs.Logs.{log_of, adds_up}
-use Rattle.logs.proofs.Sound.{is_appended, takes_it, log_after, sound_after}
+use Rattle.std.proofs.Common.{◌≡◌, ◌<◌, length, sym, ap, ◌∙◌, arith, length-take}
+use Rattle.std.proofs.lemmas.Bool.{true≢false}
+use Rattle.std.proofs.lemmas.Grind.{common_steps}
+use Rattle.lists.specs.Tables.{held, with_part}
+use Rattle.logs.specs.Logs.{log_of, lengths_of}
+use Rattle.logs.proofs.Parted.{length_parted}
+use Rattle.logs.proofs.Sound.{is_appended, log_after, sound}
 use Rattle.logs.proofs.Log.append.Goals as goal
 
-pub returns : goal.returns
-returns c =
+pub returns-clause-meaning : goal.returns-clause-meaning
+returns-clause-meaning c =
     let l = c.args.self.now in
     let d = c.args.decision.now in
-    let q = sym c.if-not-adds_up.ensures in
-    let fits = true-leb (l.entries.count + length d) 105 c.if-not-extend.ensures.answer in
-    let few : l.decided < 105 = omega arith in
-    let more : 0 < length d = let apart = false-eqb (length d) 0 c.if-is_empty.ensures in omega arith in
     let room : l.decided < length l.lengths = omega arith in
-    let made = is_appended l d _ c.if-not-extend.ensures.table in
-    record {
-      answer = sym (takes_it l d q few more fits);
-      log = made;
-      meaning = ap log_of made ∙ log_after l d room q;
-      sound = λ _. ap adds_up made ∙ sound_after l d room q few fits;
-    }
+    let made : c.extend.new.self ≡ with_part d l.entries = grind (arith, common_steps) in
+    ap log_of (is_appended l d _ made) ∙ log_after l d room (sym c.if-not-adds_up.ensures)
+
+pub returns-then-self-ge-DECISIONS-clause-room : goal.returns-then-self-ge-DECISIONS-clause-room
+returns-then-self-ge-DECISIONS-clause-room c _ _ few _ =
+    let l = c.args.self.now in
+    absurd (omega (arith, length_parted (lengths_of l) (held l.entries), length-take l.decided l.lengths))
+
+pub returns-in_err-extend-clause-room : goal.returns-in_err-extend-clause-room
+returns-in_err-extend-clause-room c adds _ _ fits =
+    let some = c.in_err-extend.ensures.room (sound c.args.self.now adds).entries_fit fits in
+    absurd (true≢false (sym some))

@@ -1,25 +1,17 @@
-use Rattle.std.proofs.Common.{◌∙◌, arith}
-use Rattle.std.proofs.lemmas.List.{length-take}
-use Rattle.logs.proofs.Decisions.{decision_means, decision_past, decision_short, decision_found}
+use Rattle.std.proofs.Common.{◌≡◌, List, ◌∙◌, Bor, arith}
+use Rattle.std.proofs.lemmas.Grind.{common_steps}
+use Rattle.std.specs.Option.{option_map}
+use Rattle.frames.specs.declared.Entry.{Entry}
+use Rattle.logs.specs.Logs.{decision_at}
+use Rattle.logs.proofs.Decisions.{decision_means}
 use Rattle.logs.proofs.Log.decision.Goals as goal
 
-pub returns-then-k-lengths : goal.returns-then-k-lengths
-returns-then-k-lengths c =
-    let is = decision_past c.args.self.now c.args.k _ c.decision_lengths-lengths.ensures.meaning c.if-k-lengths.true in
-    record { part = is; meaning = λ q. is ∙ decision_means c.args.self.now c.args.k q }
+pub returns-in_err-length-clause-meaning : goal.returns-in_err-length-clause-meaning
+returns-in_err-length-clause-meaning c =
+    let part : option_map (λ (x : Bor (List Entry)). x.now) c.from_residual.result ≡ decision_at c.args.self.now c.args.k = grind (arith, common_steps) in
+    λ q. part ∙ decision_means c.args.self.now c.args.k q
 
-pub total-start-requires : goal.total-start-requires
-total-start-requires c = omega (arith, length-take c.args.k c.decision_lengths-lengths.result.now)
-
-pub overflow_add-end : goal.overflow_add-end
-overflow_add-end c = omega (arith, length-take c.args.k c.decision_lengths-lengths.result.now)
-
-pub returns-then-end-entries : goal.returns-then-end-entries
-returns-then-end-entries c =
-    let is = decision_short c.args.self.now c.args.k _ c.decision_lengths-lengths.ensures.meaning _ _ c.part-entries.ensures c.total-start.ensures.meaning c.if-k-lengths.false c.if-end-entries.true in
-    record { part = is; meaning = λ q. is ∙ decision_means c.args.self.now c.args.k q }
-
-pub returns : goal.returns
-returns c =
-    let is = decision_found c.args.self.now c.args.k _ c.decision_lengths-lengths.ensures.meaning _ _ c.part-entries.ensures c.total-start.ensures.meaning c.if-k-lengths.false c.if-end-entries.false in
-    record { part = is; meaning = λ q. is ∙ decision_means c.args.self.now c.args.k q }
+pub returns-clause-meaning : goal.returns-clause-meaning
+returns-clause-meaning c =
+    let part : option_map (λ (x : Bor (List Entry)). x.now) c.get-2.result ≡ decision_at c.args.self.now c.args.k = grind (arith, common_steps) in
+    λ q. part ∙ decision_means c.args.self.now c.args.k q

@@ -8,5 +8,5 @@ learn-requires c =
     record {
       keeps = c.requires.keeps;
       fits = c.requires.fits;
-      idle = idle_learning c.args.plan.now c.args.row.now (token_of c.args.token.now) _ (sym c.in_ok-outcome.ensures ∙ ap Ok c.in-Learned.is);
+      idle = idle_learning c.plan-plan.result.now c.args.row.now (token_of c.args.token.now) _ (sym c.in_ok-outcome.ensures ∙ ap Ok c.in-Learned.is);
     }

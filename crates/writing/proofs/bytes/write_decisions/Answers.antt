@@ -1,50 +1,39 @@
-use Rattle.std.proofs.Common.{◌≡◌, ◌+◌, ◌*◌, [], length, sum, sym, refl, ap, ◌∙◌, arith, length-set}
+use Rattle.std.proofs.Common.{◌≡◌, ◌+◌, ◌*◌, ◌++◌, ◌∷◌, length, get_or, set, sym, refl, ap, ◌∙◌, arith, length-append}
 use lib.Seq.{paste}
 use Rattle.std.specs.List.{flat_map}
-use Rattle.std.proofs.lemmas.List.{take_all}
-use Rattle.std.proofs.lemmas.List.Edits.{paste_none}
-use Rattle.frames.specs.Contents.{decision_bytes, parted}
-use Rattle.writing.proofs.Splits.{sum_next, part_length, turn}
+use Rattle.std.proofs.lemmas.List.{append_assoc}
+use Rattle.std.proofs.lemmas.List.Sums.{sum_by-drop_more}
+use Rattle.frames.specs.Contents.{entry_bytes, decision_bytes}
+use Rattle.writing.proofs.Cuts.{decision_cut, one-more}
 use Rattle.writing.proofs.bytes.write_decisions.Goals as goal
 
-pub loop-i-init : goal.loop-i-init
-loop-i-init c = (refl, omega arith, refl, paste_none c.args.out.now c.args.at [])
-
-pub bounds-out-to : goal.bounds-out-to
-bounds-out-to c = let s = sum_next c.args.lengths.now c.loop-i.i c.loop-i-test.true in omega arith
-
-pub overflow_add-to : goal.overflow_add-to
-overflow_add-to c = let s = sum_next c.args.lengths.now c.loop-i.i c.loop-i-test.true in omega arith
-
-pub overflow_add-from : goal.overflow_add-from
-overflow_add-from c = let s = sum_next c.args.lengths.now c.loop-i.i c.loop-i-test.true in omega arith
-
-pub offset_bounds-entries-from : goal.offset_bounds-entries-from
-offset_bounds-entries-from c = let s = sum_next c.args.lengths.now c.loop-i.i c.loop-i-test.true in omega arith
-
-pub slice_bounds-write_entries-end : goal.slice_bounds-write_entries-end
-slice_bounds-write_entries-end c = let s = sum_next c.args.lengths.now c.loop-i.i c.loop-i-test.true in omega arith
-
-pub write_entries-to-requires : goal.write_entries-to-requires
-write_entries-to-requires c =
-    let s = sum_next c.args.lengths.now c.loop-i.i c.loop-i-test.true in
-    let n = part_length c.args.out.now c.args.lengths.now c.args.entries.now c.args.at c.loop-i.i c.loop-i.from c.loop-i.to c.loop-i.out c.loop-i-test.true c.requires.0 c.requires.1 c.loop-i.invariant.0 c.loop-i.invariant.1 c.loop-i.invariant.2 c.loop-i.invariant.3 in
-    simp length-set (omega arith)
-
-pub loop-i-preserved : goal.loop-i-preserved
-loop-i-preserved c =
-    turn c.args.out.now c.args.lengths.now c.args.entries.now c.args.at c.loop-i.i c.loop-i.from c.loop-i.to c.loop-i.out c.loop-i-test.true c.requires.0 c.requires.1 c.loop-i.invariant.0 c.loop-i.invariant.1 c.loop-i.invariant.2 c.loop-i.invariant.3
-    _ _ c.write_entries-to.ensures.end c.write_entries-to.ensures.bytes c.write_entries-to.ensures.long
-
-pub returns : goal.returns
-returns c =
-    let n : c.loop-i.i ≡ length c.args.lengths.now = omega arith in
-    let all = take_all c.loop-i.i c.args.lengths.now (omega arith) in
-    let from : c.loop-i.from ≡ length c.args.entries.now = c.loop-i.invariant.0 ∙ ap sum all ∙ c.requires.0 in
-    let long = ap (λ z. length (flat_map decision_bytes (parted z c.args.entries.now))) (sym all) ∙ c.loop-i.invariant.2 in
-    let k : c.loop-i.i + 9 * c.loop-i.from ≡ length c.args.lengths.now + 9 * length c.args.entries.now = omega arith in
-    record {
-      end = omega arith;
-      bytes = c.loop-i.invariant.3 ∙ (λ j. paste c.args.out.now c.args.at (flat_map decision_bytes (parted (all j) c.args.entries.now)) (k j));
-      long = long ∙ k;
-    }
+pub loop-length-preserved : goal.loop-length-preserved
+loop-length-preserved c =
+    let (done, inv) = c.loop-length.invariant in
+    let cs = c.args.counted.now.draft.now.lengths.now in
+    let i = c.loop-length.length-index in
+    let lt = c.loop-length-test.true in
+    let es = c.loop-length.entries.now in
+    let d = c.split_at.result.0.now in
+    let others = c.split_at.result.1.now in
+    let cut = c.split_at.ensures in
+    let front_len = cut.front_len in
+    let back_len = cut.back_len in
+    let sum = sum_by-drop_more (λ x. x) cs i 0 lt in
+    let E = flat_map entry_bytes d in
+    let long = c.write_entries-to.ensures.long in
+    let k = length done in
+    let n = length-append done (decision_bytes d) in
+    let len : k + (1 + 9 * length d) ≡ length (done ++ decision_bytes d) = omega arith in
+    let at = inv.place in
+    let written = one-more c.args.out.now c.args.at done k (get_or cs i 0) E (9 * length d) refl (sym long) (omega arith) in (
+      done ++ decision_bytes d,
+      record {
+        adds_up = omega arith;
+        long = omega arith;
+        place = omega arith;
+        bytes = c.write_entries-to.ensures.bytes ∙ (λ j. paste (set (inv.bytes j) (at j) (get_or cs i 0)) (at j + 1) E (9 * length d)) ∙ written
+            ∙ (λ j. paste c.args.out.now c.args.at (done ++ (sym front_len j ∷ E)) (len j));
+        whole = inv.whole ∙ ap (λ z. done ++ z) (decision_cut cs i lt es d others cut.front cut.back) ∙ sym (append_assoc done (decision_bytes d) _);
+      },
+    )

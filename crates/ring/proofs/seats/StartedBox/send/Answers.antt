@@ -6,11 +6,12 @@ use Rattle.boxes.specs.Turns.{next_id, next_entry, sending}
 use Rattle.boxes.specs.Calls.{refused_or, stayed_or, at_front, written_or}
 use Rattle.records.specs.Records.{box_of}
 use Rattle.ring.specs.Calls.{kept_row, own_fault, sent_row}
+use Rattle.boxes.proofs.Refusing.{unrefused}
 use Rattle.ring.proofs.Writing as writes
 use Rattle.ring.proofs.seats.StartedBox.send.Goals as goal
 
 pub unwrap-length-requires : goal.unwrap-length-requires
-unwrap-length-requires c = writes.accepted _ _ _ _ _ c.write_order.ensures c.in_default.ensures.cleared.fits c.take_serial-entry.ensures.lawful
+unwrap-length-requires c = writes.accepted _ _ _ _ _ c.write_order.ensures c.in_ok-check_send.ensures.cleared.fits c.take_serial-entry.ensures.lawful
 
 pub returns : goal.returns
 returns c =
@@ -20,8 +21,8 @@ returns c =
     let body = c.args.body.now in
     let out = c.args.out.now in
     let e = c.take_serial-entry.result in
-    let clear = c.in_default.ensures.cleared in
-    let none : own_fault (box_of r) (length out) true ≡ None = sym (c.in_default.ensures.fault.0 clear.rules) in
+    let clear = c.in_ok-check_send.ensures.cleared in
+    let none : own_fault (box_of r) (length out) true ≡ None = unrefused _ tt (c.in_ok-check_send.ensures.fault.0 clear.rules) in
     let entry = c.take_serial-entry.ensures.entry in
     let long = writes.long _ _ _ _ _ c.write_order.ensures clear.fits c.take_serial-entry.ensures.lawful _ c.unwrap-length.ensures ∙ ap (λ z. length (bytes_of p (order z))) entry in
     let front = writes.front _ _ _ _ _ c.write_order.ensures clear.fits c.take_serial-entry.ensures.lawful ∙ ap (λ z. at_front (bytes_of p (order z)) out) entry in
