@@ -1,5 +1,5 @@
 #!/usr/bin/env python3
-"""Lists the places in crates/*/src that today's forms might better, point by point.
+"""Lists the places in crates/*/src that newer forms of the language might better, by the points of docs/DESIGN-PASS.md.
 
     python3 tools/places.py [FOLDER] [--list]
 
@@ -13,10 +13,10 @@ import sys
 # point, what is looked for, pattern (over the whole text of a file)
 PATTERNS = [
     (1, "an answer Option<Fault>, for a caller to turn into Err", r"fn \w+(?:<[^>]*>)?\([^{};]*?\)\s*->\s*Option<\w*Fault>"),
-    (1, "if let Some(fault) = .. that gives the fault on", r"if let Some\(fault\) ="),
-    (1, "a match that only passes on an error, a None or a default", r"Err\(\w+\) => (?:return )?(?:Err|Some)\(|None => (?:None|return None|Err\(|return Err\(|\w+::[A-Z]+,)|Err\(_\) => (?:0|None)|Ok\(_\) => None"),
+    (1, "if let Some(fault) or Err(fault) = .. that gives the fault on", r"if let (?:Some|Err)\(fault\) ="),
+    (1, "a match that only passes on an error, a None or a default", r"Err\(\w+\) => (?:return )?(?:Err|Some)\(|None => (?:None|0|true|false|return None|Err\(|return Err\(|\w+::[A-Z]+,)|Err\(_\) => (?:0|None)|Ok\(_\) => None"),
     (1, "an if that only makes Some or None, Ok or Err", r"\{\s*(?:Some|Ok)\([^{}]*\)\s*\} else \{\s*(?:None|Err\([^{}]*\))\s*\}|\{\s*(?:None|Err\([^{}]*\))\s*\} else \{\s*(?:Some|Ok)\([^{}]*\)\s*\}"),
-    (1, "a bool for a refusal of a call that changes something", r"fn \w+\(&mut self[^{};]*?\)\s*->\s*bool"),
+    (1, "a bool for a refusal of a call that changes something", r"fn \w+\(&mut self(?:[^{};]|; \d+\])*?\)\s*->\s*bool"),
     (1, "numbers for kinds", r"const [A-Z]+: u8 = |\[0\] (?:==|!=) [12]\b|out\[0\] = 1|head = \[\s*2,|kind: u8|mode: u8"),
     (1, "cases of an enum with numbers that have no names", r"^\s+[A-Z]\w+\((?:u8|\[u8; 8\])(?:, (?:u8|\[u8; 8\]))+\),"),
     (2, "the number of a refusal, once for each enum", r"fn row\(&self\) -> u8"),
@@ -34,7 +34,7 @@ PATTERNS = [
     (4, "copying by hand", r"fn again\("),
     (4, "conversion by hand", r"pub\(crate\) fn read\(body|\w+ as (?:u|i)(?:8|16|32|64|size)\b"),
     (4, "printing by hand", r"fn \w+(?:_words|_cause|_line|_lines|digits|name)\("),
-    (4, "a type with no Debug or no PartialEq", r"#\[derive\((?![^)]*Debug)[^)]*\)\]\s*(?:pub(?:\(crate\))? )?(?:struct|enum) \w+"),
+    (4, "a type with no Debug", r"#\[derive\((?![^)]*Debug)[^)]*\)\]\s*(?:pub(?:\(crate\))? )?(?:struct|enum) \w+|(?<!\)\]\n)^(?:pub(?:\(crate\))? )?(?:struct|enum) \w+"),
     (5, "facts of a table or a log asked of callers", r"requires[^{\n]*\{[^\n]*(?:adds_up|nat_le \S+ room|tables_fit|\.count ≤ room)"),
     (5, "facts of a record asked of callers", r"requires[^{\n]*\{[^\n]*KeepsRules"),
     (5, "facts of a frame or a box number asked of callers", r"requires[^{\n]*\{[^\n]*(?:Lawful frame|to < boxes)"),

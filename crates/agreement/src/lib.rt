@@ -9,7 +9,8 @@ ghost use Rattle.agreement.specs.Runs.{RunsAreUnsplit, RunsGoOn, RunsAreSmooth, 
 use boxes::Outcome;
 use frames::{FrameFault, Refusal};
 
-/// Why a call of an array is refused; nothing is changed.
+/// Why a call of an array is refused; nothing is changed. An array refuses neither for a short buffer nor for a turn,
+/// so it does not carry a box's or a link's fault whole.
 #[derive(Clone, Copy, Debug, PartialEq, Eq)]
 pub enum ArrayFault {
     /// The tables are not of the plan's size, or a record does not keep the rules of its place.

@@ -6,4 +6,3 @@ pub mod Calls
 pub mod Cases
 pub mod Laws
 pub mod Worked
-pub mod Outcomes

@@ -2,7 +2,6 @@
 
 ghost use Rattle.std.specs.Prelude.{◌≡◌};
 ghost use Rattle.boxes.specs.declared.BoxFault.TheVariants as fault;
-ghost use Rattle.boxes.specs.Outcomes.{Maps};
 ghost use Rattle.boxes.specs.Laws.{AnswersFit, ListsAsToken, TestsDecide, LogsGrow, TurnsMakeTokens, RecordsStay, UnorderedStay, FramesRead, RefusalsStay, MeantFor};
 ghost use Rattle.boxes.specs.Rows.{box_row};
 ghost use Rattle.boxes.specs.Worked.{Worked};
@@ -49,23 +48,6 @@ pub enum BoxFault {
     Rounds,
     /// The turn is another box's or another round's.
     Turn,
-}
-
-impl<T> Outcome<T> {
-    /// The same answer, with what `tell` makes of an opened turn.
-    pub fn map<U, F: FnOnce(T) -> U + Drop>(self, tell: F) -> Outcome<U>
-        requires { F.IsAlwaysCallable tell }
-        ensures { Maps (F.post tell) self result }
-    {
-        match self {
-            Outcome::Kept => Outcome::Kept,
-            Outcome::Known => Outcome::Known,
-            Outcome::Waits => Outcome::Waits,
-            Outcome::Stale => Outcome::Stale,
-            Outcome::Learned(more) => Outcome::Learned(more),
-            Outcome::Opened(turn) => Outcome::Opened(tell(turn)),
-        }
-    }
 }
 
 impl From<FrameFault> for BoxFault {

@@ -2,7 +2,7 @@ ghost use Rattle.std.specs.Prelude.{◌≡◌, ℕ, false, true, List, [], ◌�
 ghost use Rattle.frames.specs.Contents.{has};
 ghost use Rattle.frames.specs.Ids.{Holds};
 
-/// A set of ids, by a flag for each byte.
+/// A set of ids, by a flag for each byte, since there is no heap.
 #[derive(Clone, Copy, Debug, PartialEq, Eq)]
 pub struct IdSet {
     pub flags: [bool; 256],

@@ -71,6 +71,7 @@ pub struct FrameFault {
 
 /// A frame that was read, by kind; its parts are the frame's own bytes.
 /// A token's stamp is its round and one, so that a dummy, of round -1, has stamp 0.
+/// `decided` is the head's own count of the decisions; the bytes hold as many.
 #[derive(Clone, Copy, Debug, PartialEq, Eq)]
 pub enum Frame<'a> {
     Order {
@@ -212,7 +213,7 @@ impl Refusal for FrameFault {
 }
 
 impl Cause {
-    /// The cause in a word.
+    /// The cause in a word, which printing writes.
     pub fn name(&self) -> &'static str
         ensures { result.now ≡ cause_name self.now }
     {

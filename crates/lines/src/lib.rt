@@ -84,7 +84,7 @@ fn digit(value: u8) -> u8
     }
 }
 
-/// The value of a character that is a digit, 0-9 or A-F.
+/// The value of a character that is a digit, 0-9 or A-F; the library's digits take small letters too.
 pub fn digit_value(character: u8) -> Option<u8>
     ensures { result ≡ digit_value character }
 {
@@ -219,6 +219,7 @@ fn put_bytes(line: &[u8], out: &mut [u8])
     ensures buffer { out.new ≡ bytes_in line.now ++ drop (length line.now / 2) out.old }
     ensures front { take (length line.now / 2) out.new ≡ bytes_in line.now }
 {
+    // by their places, as in `put_line`
     let (pairs, _) = line.as_chunks::<2>();
     for (i, [high, low]) in pairs.iter().enumerate() {
         out[i] = 16 * value(*high) + value(*low);

@@ -18,6 +18,7 @@ impl Default for Held {
     }
 }
 
+// By hand: `Default` is not derived for a struct with ghost fields.
 impl Default for Addressed {
     fn default() -> Addressed {
         Addressed {
@@ -63,7 +64,7 @@ impl Held {
 }
 
 impl Addressed {
-    /// A frame for a box that is full or not.
+    /// A frame for a box that is full or not, which its table says, so that the order of a post's refusals stands once.
     /// Refused, in this order: no such box, the box is full, the frame has 0 or over 1,060 bytes.
     pub(crate) fn new(to: u8, full: bool, frame: &[u8]) -> Result<Addressed, LinkFault>
         ensures { TakesPost to full frame.now result }

@@ -154,7 +154,7 @@ impl Entries {
     }
 }
 
-/// Where `e` goes among entries: before the first one with a greater id.
+/// Where `e` goes among entries: before the first one with a greater id, sought in order, since the ids need not ascend.
 fn place_of(entries: &[Entry], e: Entry) -> usize
     ensures within { result ≤ length entries.now }
     ensures place { inserted e entries.now ≡ take result entries.now ++ e ∷ drop result entries.now }

@@ -56,7 +56,7 @@ impl Log {
         }
     }
 
-    /// The lengths of the decisions; all there are where the number of decisions is past them.
+    /// The lengths of the decisions; all there are where the number of decisions is past them, as `Entries::part` has it.
     pub fn decision_lengths(&self) -> &[u8]
         ensures meaning { result.now ≡ lengths_of self.now }
         ensures few { length result.now ≤ room }

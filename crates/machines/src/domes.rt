@@ -128,7 +128,8 @@ impl Azimuth {
     }
 }
 
-/// A fresh dome is told a turn by -1. Answers its azimuth then and whether it was done.
+/// A fresh dome is told a turn by -1. Answers its azimuth then and whether it was done, side by side,
+/// as its statement names them.
 pub fn turn_example() -> (u16, bool)
     ensures example { (result.0 ≡ 35999) × (result.1 ≡ true) }
     ensures law { BackFromZero }

@@ -27,7 +27,7 @@ pub struct Head {
     pub declination: i32,
 }
 
-/// What a head's field `mode` may say.
+/// What a head's field `mode` may say: names for its numbers, since the field is plain.
 #[derive(Clone, Copy, Debug, PartialEq, Eq)]
 enum Mode {
     Parked = 0,
@@ -59,6 +59,8 @@ impl Head {
     {
         Standing::from(*self).head
     }
+
+    // Once for each machine, since what is shown is a type of its own.
 
     /// What a fresh head reads once it is told the bodies, in their order.
     pub fn after(bodies: &[[u8; 8]]) -> Head
@@ -136,7 +138,8 @@ impl Machine for Head {
 }
 
 /// Two heads that track at rate 100, the first at right ascension 3,000,000 and the second a step
-/// further, are told a run of 10,000 ticks. Answers each as it then reads and whether it was done.
+/// further, are told a run of 10,000 ticks. Answers each as it then reads and whether it was done,
+/// side by side, as its statement names them.
 pub fn run_example() -> (Head, bool, Head, bool)
     ensures example { RunExample result }
     ensures limit_law { RunLimit }

@@ -33,7 +33,7 @@ pub trait Machine {
     fn clear(&mut self)
         ensures { reading self.new ≡ fresh };
 
-    /// Tells the machine a body and answers whether it is done.
+    /// Tells the machine a body and answers whether it is done: done and not done are two answers, and neither is a refusal.
     fn tell(&mut self, body: &[u8; 8]) -> bool
         ensures told { reading self.new ≡ told (reading self.old) body.now }
         ensures done { result ≡ done (reading self.old) body.now };

@@ -9,7 +9,7 @@ pub(crate) fn number24(high: u8, middle: u8, low: u8) -> u32
     u32::from_be_bytes([0, high, middle, low])
 }
 
-/// Three bytes as one signed number.
+/// Three bytes as one signed number; the unsigned one comes first, since a run's ticks are read so.
 pub(crate) fn signed24(high: u8, middle: u8, low: u8) -> i32
     ensures { result ≡ signed24 (number24 high middle low) }
 {

@@ -55,6 +55,3 @@ pub entries_more : (bs : List ℕ) → 9 ≤ length bs → entries_of bs ≡ ent
 entries_more bs h =
     let n : length bs / 9 ≡ suc (length (drop 9 bs) / 9) = omega (arith, length-drop 9 bs) in
     ap (λ z. entries_in z bs) n ∙ ap (λ z. z ∷ entries_of (drop 9 bs)) (sym (entry-in-front bs))
-
-pub entries_end : (bs : List ℕ) → length bs < 9 → entries_of bs ≡ []
-entries_end bs h = let n : length bs / 9 ≡ 0 = omega arith in ap (λ z. entries_in z bs) n

@@ -154,6 +154,7 @@ pub fn decision_at(decisions: &[u8], k: usize) -> Option<&[u8]>
     ensures value { option_map (λ x. x.now) result ≡ decision_at k decisions.now }
     ensures decisions { (ds : List (List AnEntry)) → AllByRecursion (AllByRecursion Whole) ds → decisions.now ≡ flat_map decision_bytes ds → option_map (λ x. x.now) result ≡ option_map (flat_map entry_bytes) (slice_get ds k) }
 {
+    // not `DecisionsIn`: what it yields is known by its entries, not by its bytes
     let mut left = decisions;
     for _ in 0..k {
         left = first_decision(left)?.rest;

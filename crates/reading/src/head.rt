@@ -49,6 +49,7 @@ impl Head {
 }
 
 /// Tests the number that stands from `place` to before `end` in a frame of this length.
+/// Whether it is bad comes as a `bool`, since the tests are public functions of their own.
 fn test_number(length: usize, end: usize, place: usize, bad: bool) -> Result<(), FrameFault>
     ensures { result ≡ number_as length end place bad }
 {

@@ -35,7 +35,7 @@ pub fn fault_at(place: usize, cause: Cause) -> FrameFault
     FrameFault { place, cause }
 }
 
-/// Reads by the kind byte.
+/// Reads by the kind byte; `read` says more of the same answer.
 fn read_kind<'a>(plan: &Plan, bytes: &'a [u8]) -> Result<Frame<'a>, FrameFault>
     ensures { viewed result ≡ shown_as (read_as plan.now bytes.now) }
 {
@@ -84,7 +84,7 @@ fn read_order<'a>(plan: &Plan, bytes: &'a [u8]) -> Result<Frame<'a>, FrameFault>
     Ok(Frame::Order { entry: &bytes[2..] })
 }
 
-/// Reads a token whose kind and plan byte are right.
+/// Reads a token whose kind and plan byte are right. The pattern of its head is the format as it is written.
 fn read_token<'a>(plan: &Plan, bytes: &'a [u8]) -> Result<Frame<'a>, FrameFault>
     ensures { viewed result ≡ shown_as (token_as plan.now bytes.now) }
 {

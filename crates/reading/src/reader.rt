@@ -65,7 +65,7 @@ impl<'p, 'a> Reader<'p, 'a> {
         Ok(())
     }
 
-    /// Reads a list of so many entries.
+    /// Reads a list of so many entries, of which there is no list to go through: the bytes are read as they come.
     pub(crate) fn entries(&mut self, count: u8) -> Result<(), FrameFault>
         ensures { (p : Plan) (met : List ℕ) → Met p met self.old.ids → Reads p (entries_as p count 0 (rest_of self.old met)) result self.new }
     {

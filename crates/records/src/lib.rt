@@ -56,11 +56,13 @@ impl OpenTurn {
 
 // A record is a plain value that may hold anything, so what was tested of it is asked for and not kept in its type.
 impl BoxRecord {
+    // Plan and seat go apart, since the types that have both stand above, in `ring`.
+
     /// Whether the record is one of this plan and seat and keeps a record's rules. One pass over what it holds.
     pub fn keeps_rules(&self, plan: &Plan, seat: u8) -> bool
         ensures { Decides result (KeepsRules plan.now seat self.now) }
     {
-        // each test is made only of a record that passed the ones before it
+        // not one chain of `&&`: the goals of a chain whose later tests ask for the earlier ones stay open
         if !self.numbers_keep(plan, seat) {
             return false;
         }
@@ -157,6 +159,7 @@ impl BoxRecord {
         requires { tables_fit self.now ≡ true }
         ensures { Decides result (TurnLawful plan.now (box_of self.now)) }
     {
+        // not `is_none_or`: its closure would have to ask for what the tables' test gives
         match &self.turn {
             Some(turn) => self.open_keeps(plan, turn),
             None => true,

@@ -62,7 +62,7 @@ impl Seat {
 
     /// Starts the box: its record is written whole, whatever it held, and the frame with which it opens the ring stands at the
     /// front of the buffer. Answers that frame's length, which is 0 where the box opens with none: box 0 opens with the token
-    /// of round 0, the last f boxes with a dummy. A refusal hands the seat back.
+    /// of round 0, the last f boxes with a dummy. A refusal, a box's fault as of every call of a box, hands the seat back.
     pub fn open(
         self,
         row: &mut BoxRecord,
@@ -85,6 +85,7 @@ impl Seat {
     pub fn take_up(self, row: &BoxRecord) -> Result<StartedBox, (BoxFault, Seat)>
         ensures { TakenUp self row.now result }
     {
+        // not `map_err`: its closure would take the seat where nothing is refused, too
         if let Err(fault) = row.check_on(&self.plan, self.at) {
             return Err((fault, self));
         }
@@ -235,6 +236,8 @@ impl StartedBox {
         row.doubt = doubt;
         Ok(())
     }
+
+    // Not one call that takes the change as a closure: its contract would be longer than the three.
 
     /// Switches the box off. An open turn is still to be ended.
     pub fn switch_off(&self, row: &mut BoxRecord) -> Result<(), BoxFault>

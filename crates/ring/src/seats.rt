@@ -10,7 +10,7 @@ pub struct Seat {
     ghost seated: { at < plan.n },
 }
 
-/// A box that was started: only it takes frames and orders.
+/// A box that was started: only it takes frames and orders. It is a state of its own, though it has a seat's fields.
 #[derive(Debug, PartialEq, Eq, Drop)]
 pub struct StartedBox {
     pub(crate) plan: Plan,

@@ -29,8 +29,7 @@ use Rattle.records.specs.Records.{box_of, turn_of, tables_fit, KeepsRules}
 use Rattle.history.specs.Histories.{History}
 use Rattle.std.specs.List.{ContainsAt as Has, AllByRecursion}
 use Rattle.ring.specs.Calls.{JudgedRow}
-use Rattle.boxes.specs.Outcomes.{Maps}
-use Rattle.turns.specs.Frames.{outcome_of, FrameLaws}
+use Rattle.turns.specs.Frames.{FrameLaws}
 use Rattle.turns.proofs.Endings.{judged}
 
 unmapped : (o : Option OpenTurn) → option_map turn_of o ≡ None → o ≡ None
@@ -104,16 +103,3 @@ taken p i r bytes c res r' k on lawful read answers becomes fits =
       stays = record { tables = fits; rules = subst (Keeps p i) (sym becomes) ((records-stay.stay p i b k.rules).by_contents c lawful) };
       laws = subst (FrameLaws p b bytes res) (sym becomes) (subst (λ z. FrameLaws p b bytes z (box_after p b c)) (sym answers) laws);
     }
-
--- the same for the plan and the seat of the started box, which its calls answer
-pub at_started : (p q : Plan) (i j : ℕ) (r : BoxRecord) (bytes : List ℕ) (res : Result (Outcome (Unit {0})) BoxFault) (r' : BoxRecord) → p ≡ q → i ≡ j → Taken p i r bytes res r' → Taken q j r bytes res r'
-at_started p q i j r bytes res r' ep ei t = subst (λ z. Taken z j r bytes res r') ep (subst (λ z. Taken p z r bytes res r') ei t)
-
--- telling of an opened turn leaves the answer
-pub mapped : {T : Type 0} (R : Unit {0} → T → Type 0) (o : Outcome (Unit {0})) (h : Outcome T) → Maps R o h → outcome_of h ≡ o
-mapped R outcome.Kept h e = ap outcome_of e
-mapped R outcome.Known h e = ap outcome_of e
-mapped R outcome.Waits h e = ap outcome_of e
-mapped R outcome.Stale h e = ap outcome_of e
-mapped R (outcome.Learned k) h e = ap outcome_of e
-mapped R (outcome.Opened tt) h e = ap outcome_of e.1.1

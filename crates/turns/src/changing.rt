@@ -1,5 +1,6 @@
 //! How a record changes: an order kept, a lesson learned, a turn opened.
-//! A record is a plain value that may hold anything, so what was tested of it is asked for and not kept in its type.
+//! A record and its tables are plain values that may hold anything, so what was tested of them is asked for and not kept in a type;
+//! a type that held the lent record would have to say how its loan ends.
 ghost use Rattle.std.specs.Prelude.{◌≡◌, ◌+◌, true, None, Ok, ◌==◌, nat_le};
 ghost use Rattle.std.specs.List.{AllByRecursion};
 ghost use Rattle.boxes.specs.declared.Outcome.TheVariants as outcome;

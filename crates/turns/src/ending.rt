@@ -70,6 +70,7 @@ impl Turn {
         ensures reads { PassReads started.now.plan (box_of row.old) result out.new }
         ensures stays { KeepsRules started.now.plan started.now.at row.old → KeepsRules started.now.plan started.now.at row.new }
     {
+        // not `map_err`: its closure would take the turn where nothing is refused, too
         if let Err(fault) = self.check_pass(started, row, out.len()) {
             return Err((fault, self));
         }
@@ -104,6 +105,7 @@ fn write_turn(plan: &Plan, row: &BoxRecord, out: &mut [u8]) -> usize
     ensures long { result ≡ length (turn_bytes plan.now (box_of row.now) (box_of row.now).turn) }
     ensures buffer { out.new ≡ at_front (turn_bytes plan.now (box_of row.now) (box_of row.now).turn) out.old }
 {
+    // not `map_or`: its closure would have to ask for what the record's rules give
     match &row.turn {
         Some(turn) => write_open(plan, row, turn, out),
         None => 0,

@@ -10,6 +10,7 @@ use received::ReceivedToken;
 use records::BoxRecord;
 
 /// A token handed to a box, beside the box's record: both are of the plan, and the tables hold what they count.
+/// It keeps what the tests read; that the token is lawful is asked for where a log takes its proposal.
 #[derive(Clone, Copy)]
 pub(crate) struct Handed<'a> {
     pub(crate) plan: &'a Plan,

@@ -1,4 +1,4 @@
-//! What a started box makes of the bytes of a frame.
+//! What a started box makes of the bytes of a frame. What was tested of the lent record is asked for, as in `changing`.
 ghost use Rattle.std.specs.Prelude.{◌≡◌, ◌<◌, true};
 ghost use Rattle.frames.specs.Contents.{LawfulEntry};
 ghost use Rattle.boxes.specs.Calls.{frame_call, frame_after};
@@ -31,10 +31,17 @@ pub fn take_frame(
     ensures stays { KeepsRules started.now.plan started.now.at row.old → KeepsRules started.now.plan started.now.at row.new }
     ensures laws { KeepsRules started.now.plan started.now.at row.old → row.old.on ≡ true → FrameLaws started.now.plan (box_of row.old) bytes.now (answered result) (box_of row.new) }
 {
-    let outcome = take_bytes(started, row, bytes)?;
-    let seat = row.seat;
-    let round = row.awaited;
-    Ok(outcome.map(|()| Turn { seat, round }))
+    Ok(match take_bytes(started, row, bytes)? {
+        Outcome::Kept => Outcome::Kept,
+        Outcome::Known => Outcome::Known,
+        Outcome::Waits => Outcome::Waits,
+        Outcome::Stale => Outcome::Stale,
+        Outcome::Learned(more) => Outcome::Learned(more),
+        Outcome::Opened(()) => Outcome::Opened(Turn {
+            seat: row.seat,
+            round: row.awaited,
+        }),
+    })
 }
 
 /// The answer to a frame's bytes, and the record after it: rows 2, 4 and 9, and then by the frame's contents.

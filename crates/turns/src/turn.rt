@@ -1,4 +1,5 @@
 /// The right to pass the token of one round. It is not `Drop`, so it cannot be let go: it is passed or forfeited.
+#[derive(Debug, PartialEq, Eq)]
 pub struct Turn {
     pub(crate) seat: u8,
     pub(crate) round: u32,

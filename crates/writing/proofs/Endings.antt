@@ -26,9 +26,6 @@ module _ (p : Plan) (c : Content) (e : Option FrameFault) (out : List ℕ) where
   roomy : 1060 ≤ length out → refusal out e ≡ option_map refused.Frame e
   roomy h = cond-false _ _ _ (le-ltb (length out) 1060 h)
 
-  pub faulty : (f : FrameFault) → 1060 ≤ length out → e ≡ Some f → Writes p c e out out (Err (refused.Frame f))
-  faulty f h q = refused_as (refused.Frame f) (roomy h ∙ ap (option_map refused.Frame) q)
-
   pub done : (n : ℕ) (after : List ℕ) → 1060 ≤ length out → e ≡ None → n ≡ length (bytes_of p c) → after ≡ bytes_of p c ++ drop n out → read_as p (bytes_of p c) ≡ Ok c → Writes p c e out after (Ok n)
   done n after h q k w r =
       let none : refusal out e ≡ None = roomy h ∙ ap (option_map refused.Frame) q in

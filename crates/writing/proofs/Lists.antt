@@ -103,9 +103,6 @@ module _ (p : Plan) (d : Draft) (h : d.stamp < 2 ^ 32) where
   abbrev start : Rest
   start = record { at = 10; bytes = flat_map entry_bytes d.proposal.now ++ D; met = [] }
 
-  pub proposal_fails : (e : FrameFault) → entries_as p (length d.proposal.now) 0 start ≡ Err e → lists_as p bs ≡ Err e
-  proposal_fails e q = ap (λ z. and_then (and_then z (decisions_as p (length (parted d.lengths.now d.entries.now)))) (ended (token (token_in bs)))) q
-
   module _ (s : Rest) (q : entries_as p (length d.proposal.now) 0 start ≡ Ok s) where
     on : and_then (entries_as p (length d.proposal.now) 0 start) (decisions_as p (length (parted d.lengths.now d.entries.now))) ≡ decisions_as p (length d.lengths.now) s
     on = through _ (decisions_as p (length (parted d.lengths.now d.entries.now))) s q ∙ ap (λ z. decisions_as p z s) (parted_count d.lengths.now d.entries.now)

@@ -1,7 +1,7 @@
 -- Walking over a list or decisions, beside reading their bytes.
-use Rattle.std.proofs.Common.{◌≡◌, ℕ, ◌+◌, ◌<◌, ◌≤◌, ◌||◌, leb, List, ◌∷◌, ◌++◌, length, get_or, take, drop, Ok, Err, Result, sym, refl, ap, ◌∙◌, subst, arith, length-append}
+use Rattle.std.proofs.Common.{◌≡◌, ℕ, ◌+◌, ◌<◌, ◌||◌, leb, List, ◌∷◌, ◌++◌, length, get_or, take, drop, Ok, Err, Result, sym, refl, ap, ◌∙◌, subst, arith, length-append}
 use Rattle.std.specs.List.{flat_map, AllByRecursion}
-use Rattle.std.proofs.lemmas.List.{append_assoc, drop_at, take_more, take_all}
+use Rattle.std.proofs.lemmas.List.{append_assoc, drop_at, take_more}
 use Rattle.std.proofs.lemmas.Bool.{cond-false, le-ltb}
 use Rattle.std.proofs.ByRecursion.{All-push}
 use Rattle.frames.specs.declared.Entry.{Entry}
@@ -61,6 +61,3 @@ front_entry es i e left here = ap (λ z. flat_map entry_bytes z ++ left) here �
 
 pub all_more : (es : List Entry) (i : ℕ) (d : Entry) → AllByRecursion Whole (take i es) → Whole (get_or es i d) → i < length es → AllByRecursion Whole (take (i + 1) es)
 all_more es i d a w h = subst (AllByRecursion Whole) (sym (take_more es i d h)) (All-push Whole (take i es) (get_or es i d) a w)
-
-pub all_of : (es : List Entry) (i : ℕ) → AllByRecursion Whole (take i es) → length es ≤ i → AllByRecursion Whole es
-all_of es i a h = subst (AllByRecursion Whole) (take_all i es h) a

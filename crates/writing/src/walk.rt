@@ -10,6 +10,7 @@ use frames::{Cause, Entry, FrameFault, Plan};
 use reading::{FrameIds, fault_at};
 
 /// A walk over entries as they would stand in a frame: the place of the next byte, and the ids so far.
+/// Reading walks over bytes, which may end early; these entries are whole.
 #[derive(Drop)]
 pub(crate) struct Walk<'p> {
     at: usize,
