@@ -13,15 +13,15 @@ use std::alloc::{AllocError, Global};
 use std::fmt;
 
 /// The digits of bytes, two for each.
-#[derive(Clone, Copy)]
+#[derive(Clone, Copy, Debug, PartialEq, Eq)]
 struct Digits<'a>(&'a [u8]);
 
 /// An entry: its id, the box and the serial that this tells, and its body.
-#[derive(Clone, Copy)]
+#[derive(Clone, Copy, Debug, PartialEq, Eq)]
 struct EntryWords(Entry);
 
 /// What the entries of a list are in their frame.
-#[derive(Clone, Copy)]
+#[derive(Clone, Copy, Debug, PartialEq, Eq)]
 enum Role {
     Order,
     Proposed,
@@ -30,22 +30,22 @@ enum Role {
 }
 
 /// A line of text for each entry in the bytes of entries.
-#[derive(Clone, Copy)]
+#[derive(Clone, Copy, Debug, PartialEq, Eq)]
 struct EntryLines<'a> {
     role: Role,
     part: &'a [u8],
 }
 
 /// The lines of text for the decisions in the bytes of decisions, which are numbered from 1.
-#[derive(Clone, Copy)]
+#[derive(Clone, Copy, Debug, PartialEq, Eq)]
 struct DecisionLines<'a>(&'a [u8]);
 
 /// How many votes there are.
-#[derive(Clone, Copy)]
+#[derive(Clone, Copy, Debug, PartialEq, Eq)]
 struct Votes(u8);
 
 /// The line of text for a token's head.
-#[derive(Clone, Copy)]
+#[derive(Clone, Copy, Debug, PartialEq, Eq)]
 struct HeadLine {
     sender: u8,
     stamp: u32,

@@ -5,7 +5,7 @@ use crate::ids::FrameIds;
 use frames::{Cause, FrameFault, Plan};
 
 /// A walk over a frame from its front: the place of the next byte, the bytes from there on, and the ids so far.
-#[derive(Drop)]
+#[derive(Debug, PartialEq, Eq, Drop)]
 pub(crate) struct Reader<'p, 'a> {
     pub(crate) at: usize,
     pub(crate) rest: &'a [u8],
@@ -88,7 +88,7 @@ impl<'p, 'a> Reader<'p, 'a> {
         self.entries(count)
     }
 
-    /// Reads so many decisions.
+    /// Reads so many decisions, as they come.
     pub(crate) fn decisions(&mut self, count: u8) -> Result<(), FrameFault>
         ensures { (p : Plan) (met : List ℕ) → Met p met self.old.ids → Reads p (decisions_as p count (rest_of self.old met)) result self.new }
     {

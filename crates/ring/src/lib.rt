@@ -44,12 +44,13 @@ impl Seat {
         ensures meaning { box_of row.new ≡ started self.plan self.at }
         ensures rules { KeepsRules self.plan self.at row.new }
     {
+        let awaited = self.first_awaited();
         let Seat { plan, at } = self;
         *row = BoxRecord {
             n: plan.boxes(),
             f: plan.tolerance(),
             seat: at,
-            awaited: first_awaited(&plan, at),
+            awaited,
             log: Log::new(),
             unordered: Entries::new(),
             last: 0,
@@ -77,8 +78,33 @@ impl Seat {
         if out.len() < FRAME_MAX {
             return Err((BoxFault::Short, self));
         }
-        let length = write_opening(&self.plan, self.at, out);
+        let length = self.write_opening(out);
         Ok((self.start(row), length))
+    }
+
+    /// The round that the box first awaits: that of its number, but box 0 passes round 0 by starting the ring.
+    fn first_awaited(&self) -> u32
+        ensures { result ≡ (if nat_eq self.now.at 0 then self.now.plan.n else self.now.at) }
+    {
+        match self.at {
+            0 => u32::from(self.plan.boxes()),
+            at => u32::from(at),
+        }
+    }
+
+    /// Writes the frame with which the box opens the ring, if it opens with one, and answers its length.
+    fn write_opening(&self, out: &mut [u8]) -> usize
+        requires { frame_most ≤ length out.old }
+        ensures long { result ≡ length (opening_bytes self.now.plan self.now.at) }
+        ensures buffer { out.new ≡ at_front (opening_bytes self.now.plan self.now.at) out.old }
+    {
+        if self.at == 0 {
+            return write_empty(&self.plan, self.at, 1, 1, out);
+        }
+        if self.at >= self.plan.boxes() - self.plan.tolerance() {
+            return write_empty(&self.plan, self.at, 0, 0, out);
+        }
+        0
     }
 
     /// The started box of a record that is on and keeps the rules; a refusal hands the seat back.
@@ -92,28 +118,6 @@ impl Seat {
         let Seat { plan, at } = self;
         Ok(StartedBox { plan, at })
     }
-}
-
-/// The round that a box first awaits: that of its number, but box 0 passes round 0 by starting the ring.
-fn first_awaited(plan: &Plan, at: u8) -> u32
-    ensures { result ≡ (if nat_eq at 0 then plan.now.n else at) }
-{
-    u32::from(if at == 0 { plan.boxes() } else { at })
-}
-
-/// Writes the frame with which a box opens the ring, if it opens with one, and answers its length.
-fn write_opening(plan: &Plan, at: u8, out: &mut [u8]) -> usize
-    requires { (at < plan.now.n) × (frame_most ≤ length out.old) }
-    ensures long { result ≡ length (opening_bytes plan.now at) }
-    ensures buffer { out.new ≡ at_front (opening_bytes plan.now at) out.old }
-{
-    if at == 0 {
-        return write_empty(plan, at, 1, 1, out);
-    }
-    if at >= plan.boxes() - plan.tolerance() {
-        return write_empty(plan, at, 0, 0, out);
-    }
-    0
 }
 
 /// Writes a lawful token that proposes and has decided nothing, and answers its length.

@@ -88,6 +88,7 @@ impl Turn {
         ensures row { JudgedRow started.now.plan started.now.at row.old (λ kept. kept_row (forfeit_fault (box_of row.old) kept self.seat self.round) row.old (forfeited_row row.old)) row.new }
         ensures stays { KeepsRules started.now.plan started.now.at row.old → KeepsRules started.now.plan started.now.at row.new }
     {
+        // as in `pass`
         if let Err(fault) = self.check_forfeit(started, row) {
             return Err((fault, self));
         }

@@ -11,7 +11,7 @@ use records::BoxRecord;
 
 /// A token handed to a box, beside the box's record: both are of the plan, and the tables hold what they count.
 /// It keeps what the tests read; that the token is lawful is asked for where a log takes its proposal.
-#[derive(Clone, Copy)]
+#[derive(Clone, Copy, Debug, PartialEq, Eq)]
 pub(crate) struct Handed<'a> {
     pub(crate) plan: &'a Plan,
     pub(crate) row: &'a BoxRecord,
@@ -25,7 +25,7 @@ pub(crate) struct Handed<'a> {
 }
 
 /// A turn that opens on a token, with the votes that the token's proposal then has.
-#[derive(Clone, Copy)]
+#[derive(Clone, Copy, Debug, PartialEq, Eq)]
 pub(crate) struct Opening<'a> {
     pub(crate) handed: Handed<'a>,
     pub(crate) votes: u8,

@@ -5,7 +5,7 @@ use frames::{Cause, FrameFault};
 use reading::{Head, fault_at};
 
 /// A draft whose counts fit a byte each, and whose lengths add up to its entries.
-#[derive(Clone, Copy)]
+#[derive(Clone, Copy, Debug, PartialEq, Eq)]
 pub(crate) struct Counted<'a> {
     pub(crate) draft: &'a Draft<'a>,
     ghost proposed_fits: { length draft.now.proposal.now ≤ 255 },

@@ -78,7 +78,8 @@ pub fn write_order(plan: &Plan, entry: &Entry, out: &mut [u8]) -> Result<usize, 
     Ok(11)
 }
 
-/// The first fault of a draft: the place and the cause that its bytes would have. Calls that refuse go by `check_draft`.
+/// The first fault of a draft: the place and the cause that its bytes would have. An `Option`, since it is a question
+/// about a draft and refuses nothing; calls that refuse go by `check_draft`.
 pub fn draft_fault(plan: &Plan, draft: &Draft) -> Option<FrameFault>
     ensures value { result ≡ draft_fault plan.now draft.now }
     ensures sound { Faultless result (Sound plan.now draft.now) }

@@ -11,7 +11,7 @@ use reading::{FrameIds, fault_at};
 
 /// A walk over entries as they would stand in a frame: the place of the next byte, and the ids so far.
 /// Reading walks over bytes, which may end early; these entries are whole.
-#[derive(Drop)]
+#[derive(Debug, PartialEq, Eq, Drop)]
 pub(crate) struct Walk<'p> {
     at: usize,
     ids: FrameIds<'p>,
@@ -77,6 +77,7 @@ impl<'p> Walk<'p> {
         ensures walked { (p : Plan) (left met : List ℕ) → Met p met self.old.ids → let d = counted.now.draft.now in Walks p (decisions_as p (length d.lengths.now) (rest_of self.old (flat_map decision_bytes (parted d.lengths.now d.entries.now) ++ left) met)) left result self.new }
         ensures whole { OnOk result (AllByRecursion Whole counted.now.draft.now.entries.now) }
     {
+        // the lengths cut the entries into decisions, as in `write_decisions`
         let mut entries = counted.draft.entries;
         for length in counted.draft.lengths {
             let (decision, others) = entries.split_at(*length as usize);
