@@ -32,10 +32,10 @@ one_miss b a e = ap (map frame_of) (cond-false (a.to == b) (a ∷ []) [] (ne_eqb
 
 -- a slot more at the end
 module _ (b : ℕ) (xs : List Addressed) (a : Addressed) where
-  push_own : a.to ≡ b → frames_for b (xs ++ a ∷ []) ≡ frames_for b xs ++ frame_of a ∷ []
+  pub push_own : a.to ≡ b → frames_for b (xs ++ a ∷ []) ≡ frames_for b xs ++ frame_of a ∷ []
   push_own e = frames_append b xs (a ∷ []) ∙ ap (λ l. frames_for b xs ++ l) (one_hit b a e)
 
-  push_other : (a.to ≢ b) → frames_for b (xs ++ a ∷ []) ≡ frames_for b xs
+  pub push_other : (a.to ≢ b) → frames_for b (xs ++ a ∷ []) ≡ frames_for b xs
   push_other e = frames_append b xs (a ∷ []) ∙ ap (λ l. frames_for b xs ++ l) (one_miss b a e) ∙ append-nil (frames_for b xs)
 
 -- what a tray with these slots means
@@ -66,10 +66,10 @@ module _ (xs : List Addressed) (to place k : ℕ) (a : Addressed) (found : Stand
   pub stands_frame : get_or (frames_for to xs) place [] ≡ frame_of a
   stands_frame = ap (λ l. get_or l place []) frames ∙ get_or_at (frames_for to (take k xs)) (frame_of a) (frames_for to (drop (suc k) xs)) [] place found.before
 
-  removed_own : frames_for to (remove xs k) ≡ remove (frames_for to xs) place
+  pub removed_own : frames_for to (remove xs k) ≡ remove (frames_for to xs) place
   removed_own = frames_append to (take k xs) (drop (suc k) xs) ∙ sym (removed_at (frames_for to (take k xs)) (frame_of a) (frames_for to (drop (suc k) xs))) ∙ ap₂ remove (sym frames) found.before
 
-  removed_other : (b : ℕ) → b ≢ to → frames_for b (remove xs k) ≡ frames_for b xs
+  pub removed_other : (b : ℕ) → b ≢ to → frames_for b (remove xs k) ≡ frames_for b xs
   removed_other b ne = frames_append b (take k xs) (drop (suc k) xs) ∙ sym (around b ∙ ap (λ l. frames_for b (take k xs) ++ (l ++ frames_for b (drop (suc k) xs))) (one_miss b a (λ e. ne (sym e ∙ found.own))))
 
 pub slot_taken : (xs ys : List Addressed) (to place k : ℕ) (a : Addressed) → Stands xs to place k a → length xs ≤ tray_limit → ys ≡ remove xs k → length ys + 1 ≡ length xs → Taken (slots_mail xs) to place (slots_mail ys)

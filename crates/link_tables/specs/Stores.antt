@@ -1,9 +1,9 @@
 -- What the tables mean.
 use Rattle.std.specs.Prelude.{ℕ, zero, suc, ◌+◌, List, [], map, length, filter, nat_eq, nat_le, slice_index_or}
-use Rattle.arrayvec.specs.ArrayVec.{ArrayVec}
 use Rattle.links.specs.Mail.{Mail}
 use Rattle.link_tables.specs.declared.slots.Held.{Held}
 use Rattle.link_tables.specs.declared.slots.Addressed.{Addressed}
+use Rattle.link_tables.specs.declared.slots.Line.{Line}
 use Rattle.link_tables.specs.declared.slots.Lines.{Lines}
 use Rattle.link_tables.specs.declared.slots.Tray.{Tray}
 use Rattle.link_tables.specs.Sizes.{tray_limit, line_limit}
@@ -27,8 +27,8 @@ abbrev pub in_all : ℕ → Mail → ℕ
 in_all zero m = 0
 in_all (suc n) m = in_all n m + length (m.waiting n)
 
-abbrev pub line_frames : ArrayVec Held → List (List ℕ)
-line_frames l = map bytes_of l.items
+abbrev pub line_frames : Line → List (List ℕ)
+line_frames l = map bytes_of l.slots.items
 
 -- none for a box that has no line
 abbrev pub frames_on : Lines → ℕ → List (List ℕ)

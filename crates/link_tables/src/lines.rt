@@ -1,4 +1,4 @@
-ghost use Rattle.std.specs.Prelude.{◌≡◌, length, nat_le};
+ghost use Rattle.std.specs.Prelude.{◌≡◌, [], length, nat_le};
 ghost use Rattle.links.specs.Mail.{Fresh};
 ghost use Rattle.link_tables.specs.Finding.{HasLine, HoldsAtPlace};
 ghost use Rattle.link_tables.specs.Lawful.{lines_lawful};
@@ -7,7 +7,19 @@ ghost use Rattle.link_tables.specs.Stores.{lines_mail};
 
 use crate::checks::check_buffer;
 use crate::slots::{Addressed, Held, Line, Lines};
+use arrayvec::ArrayVec;
 use links::{Link, LinkFault};
+
+// By hand: `Default` is not derived for a struct with ghost fields.
+impl Default for Line {
+    ghost is_default = { λ line. line.slots.items ≡ [] };
+
+    fn default() -> Line {
+        Line {
+            slots: ArrayVec::new(),
+        }
+    }
+}
 
 impl Lines {
     /// Lines on which nothing waits.
@@ -24,7 +36,7 @@ impl Lines {
         ensures at { result ≡ nat_le line_limit (length ((lines_mail self.now).waiting to)) }
         ensures own { (lines_mail self.now).full to ≡ result }
     {
-        self.line(to).is_ok_and(|line| line.is_full())
+        self.line(to).is_ok_and(|line| line.slots.is_full())
     }
 
     /// The line to a box.
@@ -38,7 +50,10 @@ impl Lines {
     fn held(&self, to: u8, place: u8) -> Result<&Held, LinkFault>
         ensures { HoldsAtPlace self.now to place result }
     {
-        self.line(to)?.get(place as usize).ok_or(LinkFault::Place)
+        self.line(to)?
+            .slots
+            .get(place as usize)
+            .ok_or(LinkFault::Place)
     }
 }
 
@@ -50,18 +65,20 @@ impl Link for Lines {
 
     fn post(&mut self, to: u8, frame: &[u8]) -> Result<(), LinkFault> {
         let post = Addressed::new(to, self.is_full(to), frame)?;
-        self.lines[to as usize].push(post.held);
+        let line = &mut self.lines[to as usize];
+        line.slots.push(post.held);
         Ok(())
     }
 
     fn remove(&mut self, to: u8, place: u8) -> Result<(), LinkFault> {
         self.held(to, place)?;
-        self.lines[to as usize].remove(place as usize);
+        let line = &mut self.lines[to as usize];
+        line.slots.remove(place as usize);
         Ok(())
     }
 
     fn count(&self, to: u8) -> Result<u8, LinkFault> {
-        Ok(self.line(to)?.len() as u8)
+        Ok(self.line(to)?.slots.len() as u8)
     }
 
     fn copy(&self, to: u8, place: u8, out: &mut [u8]) -> Result<usize, LinkFault> {

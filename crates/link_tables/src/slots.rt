@@ -1,7 +1,7 @@
 //! The tables, with what always holds of them.
 ghost use Rattle.std.specs.Prelude.{◌<◌, ◌≤◌, length};
 ghost use Rattle.links.specs.Mail.{boxes, longest};
-ghost use Rattle.link_tables.specs.Sizes.{tray_limit};
+ghost use Rattle.link_tables.specs.Sizes.{tray_limit, line_limit};
 
 use crate::{LINE, TRAY};
 use arrayvec::ArrayVec;
@@ -31,7 +31,11 @@ pub struct Tray {
 }
 
 /// Up to four frames for one box, oldest first.
-pub(crate) type Line = ArrayVec<Held, LINE>;
+#[derive(Debug, PartialEq, Eq, Drop)]
+pub(crate) struct Line {
+    pub(crate) slots: ArrayVec<Held, LINE>,
+    ghost few: { length slots.items ≤ line_limit },
+}
 
 /// A line to each box; a box is full at four frames.
 #[derive(Debug, PartialEq, Eq, Drop)]
