@@ -60,11 +60,11 @@ pub length_inserted : (e : Entry) (es : List Entry) → length (inserted e es) �
 length_inserted e [] = refl
 length_inserted e (x ∷ xs) = let rest = length_inserted e xs in grind (arith, nat_tests)
 
-ids_inserted : (e : Entry) (es : List Entry) (i : ℕ) → has i (ids_of (inserted e es)) ≡ (eqb i e.id || has i (ids_of es))
+pub ids_inserted : (e : Entry) (es : List Entry) (i : ℕ) → has i (ids_of (inserted e es)) ≡ (eqb i e.id || has i (ids_of es))
 ids_inserted e [] i = refl
 ids_inserted e (x ∷ xs) i = let rest = ids_inserted e xs i in grind (arith, nat_tests)
 
-inserted_ascends : (e : Entry) (es : List Entry) → AscendsStill e es (inserted e es)
+pub inserted_ascends : (e : Entry) (es : List Entry) → AscendsStill e es (inserted e es)
 inserted_ascends e [] last asc lt new = (lt, tt)
 inserted_ascends e (x ∷ xs) last asc lt new =
     let apart = or_parts (eqb e.id x.id) (has e.id (ids_of xs)) new in

@@ -1,16 +1,47 @@
--- Entries that stay where others leave.
-use Rattle.std.proofs.Common.{◌≡◌, ℕ, ◌≤◌, Bool, false, not, List, [], ◌∷◌, length, get_or, take, sym, refl, arith}
+-- Entries that stay, moved to the front in one pass.
+use Rattle.std.proofs.Common.{◌≡◌, ℕ, ◌+◌, ◌<◌, ◌≤◌, Bool, true, false, not, List, [], ◌∷◌, ◌++◌, length, get_or, take, drop, set, filter, sym, refl, ap, ◌∙◌, arith}
 use Rattle.std.proofs.lemmas.Bool.{and_right}
 use Rattle.std.proofs.lemmas.Bool.Decides.{nat_tests}
-use Rattle.std.proofs.lemmas.List.{length-take}
-use Rattle.std.proofs.lemmas.List.Sums.{length-filter, count_by-le-length}
+use Rattle.std.proofs.lemmas.List.{drop-drop, drop-set-lt, take-append-drop, length-take-le}
+use Rattle.std.proofs.lemmas.List.Filters.{FiltersInPlace, FiltersInPlace-more_set, FiltersInPlace-more_no}
 use Rattle.frames.specs.declared.Entry.{Entry}
 use Rattle.frames.specs.Contents.{ids_of, Ascend}
 use Rattle.lists.specs.Tables.{LeavesMarked, staying, KeepsAscending, Unflagged}
 
+-- what is kept so far, with all from there on as it was
+pub record Moving {X : Type 0} (p : X → Bool) (xs ys : List X) (k i : ℕ) : Type 0 where
+  pub keeping : FiltersInPlace p xs ys k i
+  pub beyond : drop k ys ≡ drop k xs
+
+module _ {X : Type 0} {p : X → Bool} {xs ys : List X} {k i : ℕ} {x : X} (m : Moving p xs ys k i) (h : i < length ys) (is : x ≡ get_or ys i x) where
+  pub moving_no : p x ≡ false → Moving p xs ys k (i + 1)
+  moving_no q = record { keeping = FiltersInPlace-more_no m.keeping h q is; beyond = m.beyond }
+
+  pub moving_yes : p x ≡ true → Moving p xs (set ys k x) (k + 1) (i + 1)
+  moving_yes q =
+      record {
+        keeping = FiltersInPlace-more_set m.keeping h q is;
+        beyond = drop-set-lt (k + 1) ys k x (omega arith) ∙ sym (drop-drop 1 k ys) ∙ ap (drop 1) m.beyond ∙ drop-drop 1 k xs;
+      }
+
+module _ {X : Type 0} {p : X → Bool} {xs ys : List X} {k i : ℕ} (m : Moving p xs ys k i) where
+  pub moved_all : ys ≡ filter p (take i xs) ++ drop k xs
+  moved_all =
+      let whole = take-append-drop k ys in
+      let front = m.keeping.front in
+      let back = m.beyond in
+      cc
+
+  pub moved_count : k ≡ length (filter p (take i xs))
+  moved_count =
+      let b = m.keeping.behind in
+      let w = m.keeping.within in
+      let l = m.keeping.long in
+      sym (length-take-le k ys (omega arith)) ∙ ap length m.keeping.front
+
 -- What stays
 
-staying_ids : (flags : List Bool) (es : List Entry) → Unflagged flags es (staying flags es)
+pub staying_ids : (flags : List Bool) (es : List Entry) → Unflagged flags es (staying flags es)
 staying_ids flags [] i = sym (and_right (not (get_or flags i false)) false refl)
 staying_ids flags (x ∷ xs) i = let rest = staying_ids flags xs i in grind (arith, nat_tests)
 
@@ -19,7 +50,7 @@ lower : (a b : ℕ) (is : List ℕ) → a ≤ b → Ascend b is → Ascend a is
 lower a b [] le asc = asc
 lower a b (i ∷ is) le asc = (omega (arith, asc.0), asc.1)
 
-staying_ascends : (flags : List Bool) (es : List Entry) → KeepsAscending es (staying flags es)
+pub staying_ascends : (flags : List Bool) (es : List Entry) → KeepsAscending es (staying flags es)
 staying_ascends flags [] last asc = asc
 staying_ascends flags (x ∷ xs) last asc =
     let rest = staying_ascends flags xs x.id asc.1 in
@@ -27,7 +58,7 @@ staying_ascends flags (x ∷ xs) last asc =
     grind (arith, nat_tests)
 
 -- flags that mark ids keep what those ids keep
-leaves_marked : (flags : List Bool) (es : List Entry) → LeavesMarked flags es (staying flags es)
+pub leaves_marked : (flags : List Bool) (es : List Entry) → LeavesMarked flags es (staying flags es)
 leaves_marked flags [] ids marks small = refl
 leaves_marked flags (x ∷ xs) ids marks small =
     let here = marks x.id small.0 in
@@ -45,9 +76,3 @@ module _ (flags : List Bool) (es es' : List Entry) (is : es' ≡ staying flags e
 
   pub marked_left : LeavesMarked flags es es'
   marked_left = rw is (leaves_marked flags es)
-
--- no more stay than there were
-pub few_stay : (flags : List Bool) (es : List Entry) (k : ℕ) → length (staying flags (take k es)) ≤ k
-few_stay flags es k =
-    let p : Entry → Bool = λ (e : Entry). not (get_or flags e.id false) in
-    omega (arith, length-filter p (take k es), count_by-le-length p (take k es), length-take k es)

@@ -2,7 +2,8 @@
 use Rattle.std.specs.Prelude.{◌≡◌, ℕ, ◌<◌, Bool, false, cond, not, ◌&&◌, List, [], ◌∷◌, ◌++◌, length, take, drop, replicate, filter, nat_le, nat_lt, slice_index_or}
 use Rattle.std.specs.List.{AllByRecursion}
 use Rattle.frames.specs.declared.Entry.{Entry}
-use Rattle.frames.specs.Contents.{has, ids_of, Ascend, Marks}
+use Rattle.frames.specs.Contents.{has, ids_of, Ascend}
+pub use Rattle.frames.specs.Contents.{Marks}
 use Rattle.lists.specs.declared.Entries.{Entries}
 
 -- how many entries a table can hold

@@ -18,7 +18,8 @@ pub const ENTRIES: usize = 105;
 pub fn begins<T: Exact>(short: &[T], long: &[T]) -> bool
     ensures { Decides result (Begins short.now long.now) }
 {
-    long.starts_with(short)
+    // not `starts_with`, whose comparison of parts takes half as long again
+    short.len() <= long.len() && short.iter().zip(long).all(|(a, b)| a == b)
 }
 
 /// A table that would hold more entries than it has room for.
@@ -88,7 +89,7 @@ impl Entries {
         ensures meaning { held self.new ≡ (if is_ok result then inserted e (held self.old) else held self.old) }
         ensures ascends { AscendsStill e (held self.old) (held self.new) }
         ensures ids { OnOk result ((i : ℕ) → has i (ids_of (held self.new)) ≡ (i == e.id || has i (ids_of (held self.old)))) }
-        ensures room { self.old.count ≤ room → length (held self.old) < room → is_ok result ≡ true }
+        ensures room { length (held self.old) < room → is_ok result ≡ true }
     {
         let count = self.count as usize;
         if count >= ENTRIES {
@@ -111,14 +112,16 @@ impl Entries {
         if !self.fits() {
             return;
         }
-        let before = *self;
-        self.count = 0;
-        for e in before.part() {
+        let mut kept = 0;
+        // by places, since each entry that stays moves straight to its final one
+        for k in 0..self.count as usize {
+            let e = self.items[k];
             if !gone.has(e.id) {
-                // no more stay than were held, so there is room
-                self.extend(&[*e]).unwrap();
+                self.items[kept] = e;
+                kept += 1;
             }
         }
+        self.count = kept as u8;
     }
 
     /// Holds `part` in place of what it held.

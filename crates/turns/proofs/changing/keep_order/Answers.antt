@@ -1,5 +1,5 @@
 use Rattle.std.proofs.Common.{ap, ◌∙◌}
-use Rattle.std.proofs.lemmas.Bool.{cond-true, leb-true}
+use Rattle.std.proofs.lemmas.Bool.{cond-true}
 use Rattle.lists.specs.Tables.{held, inserted}
 use Rattle.lists.proofs.Holds.{holds}
 use Rattle.records.specs.Records.{box_of}
@@ -9,7 +9,7 @@ use Rattle.turns.proofs.changing.keep_order.Goals as goal
 
 pub unwrap-requires : goal.unwrap-requires
 unwrap-requires c =
-    c.insert.ensures.room (leb-true _ _ (fitting c.args.row.now c.requires.keeps.tables).unordered) (order_fits _ _ _ _ c.requires.keeps c.requires.lawful c.requires.new)
+    c.insert.ensures.room (order_fits _ _ _ _ c.requires.keeps c.requires.lawful c.requires.new)
 
 pub returns : goal.returns
 returns c =
@@ -18,7 +18,7 @@ returns c =
     let table = c.insert.new.self in
     let fits = fitting r c.requires.keeps.tables in
     let less = order_fits _ _ r e c.requires.keeps c.requires.lawful c.requires.new in
-    let made = c.insert.ensures.table ∙ cond-true _ _ _ (c.insert.ensures.room (leb-true _ _ fits.unordered) less) in
+    let made = c.insert.ensures.table ∙ cond-true _ _ _ (c.insert.ensures.room less) in
     let more = with_entry_fits e r.unordered table less made in
     record {
       row = ap (λ us. remade r r.log us r.turn) made;

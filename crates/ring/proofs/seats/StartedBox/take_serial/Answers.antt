@@ -13,7 +13,7 @@ use Rattle.ring.proofs.seats.StartedBox.take_serial.Goals as goal
 pub unwrap-requires : goal.unwrap-requires
 unwrap-requires c =
     let bytes = All-from_get_or (λ b. b < 256) c.args.body.now 0 (λ i _. c.fits-body i) in
-    c.insert.ensures.room (next.fits _ _ _ c.requires.rules c.requires.left _ c.told-body bytes) (next.roomy _ _ _ c.requires.rules c.requires.left _ c.told-body bytes)
+    c.insert.ensures.room (next.roomy _ _ _ c.requires.rules c.requires.left _ c.told-body bytes)
 
 pub returns : goal.returns
 returns c =
@@ -26,7 +26,7 @@ returns c =
     let bytes = All-from_get_or (λ b. b < 256) body 0 (λ i _. c.fits-body i) in
     let id : 16 * at + r.last + 1 ≡ 16 * r.seat + (r.last + 1) = omega (arith, k.rules.seated) in
     let entry : ◌≡◌ {A = Entry} (record { id = 16 * at + r.last + 1; body = body }) (next_entry (box_of r) body) = λ j. record { id = id j; body = body } in
-    let room = c.insert.ensures.room (next.fits p at r k left body c.told-body bytes) (next.roomy p at r k left body c.told-body bytes) in
+    let room = c.insert.ensures.room (next.roomy p at r k left body c.told-body bytes) in
     let table = c.insert.ensures.table ∙ cond-true _ _ _ room ∙ ap (λ z. with_entry z r.unordered) entry in
     let row : _ ≡ sent_row body r = λ j. record {
       n = r.n;
