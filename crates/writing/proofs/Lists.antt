@@ -1,16 +1,15 @@
 -- What reading the bytes of a draft gives, when its parts are walked over.
-use Rattle.std.proofs.Common.{◌≡◌, ℕ, suc, ◌^◌, ◌<◌, ◌≤◌, Bool, cond, ltb, leb, List, [], ◌∷◌, ◌++◌, length, take, drop, Ok, Err, Result, OnOk, sym, refl, ap, ◌∙◌, subst, inl, inr, arith}
+use Rattle.std.proofs.Common.{◌≡◌, ℕ, suc, ◌^◌, ◌<◌, ◌≤◌, Bool, cond, ltb, leb, List, [], ◌∷◌, ◌++◌, length, drop, Ok, Err, Result, OnOk, sym, refl, ap, ◌∙◌, inr, arith}
 use Rattle.std.specs.List.{flat_map, AllByRecursion}
 use Rattle.std.proofs.ByRecursion.{All-take, All-drop}
 use Rattle.std.proofs.lemmas.Bool.{cond-false, le-ltb}
-use Rattle.std.proofs.lemmas.List.{take_all, append-nil}
 use Rattle.frames.specs.declared.Cause.TheVariants as cause
 use Rattle.frames.specs.declared.plan.Plan.{Plan}
 use Rattle.frames.specs.declared.Entry.{Entry}
 use Rattle.frames.specs.declared.FrameFault.{FrameFault}
-use Rattle.frames.specs.Contents.{Token, Content, Whole, entry_bytes, decision_bytes, token_bytes, bytes_of, parted}
-use Rattle.frames.specs.Contents.Content.{order, token}
-use Rattle.frames.specs.Reading.{Rest, entries_as, decisions_as, and_then, ended, entry_in, fault_at, lists_as, read_as, token_in, bad_round, bad_votes, bad_proposed, bad_decided}
+use Rattle.frames.specs.Contents.{Token, Content, Whole, entry_bytes, decision_bytes, token_bytes, parted}
+use Rattle.frames.specs.Contents.Content.{token}
+use Rattle.frames.specs.Reading.{Rest, entries_as, decisions_as, and_then, ended, fault_at, lists_as, read_as, token_in, bad_round, bad_votes, bad_proposed, bad_decided}
 use Rattle.frames.proofs.Steps.{through}
 use Rattle.frames.proofs.Written.{by_kind, four, token-in}
 use Rattle.reading.specs.declared.head.Head.{Head}
@@ -20,38 +19,9 @@ use Rattle.writing.specs.declared.Draft.{Draft}
 use Rattle.writing.specs.declared.walk.Walk.{Walk}
 use Rattle.writing.specs.Checked.{Checks, head_of}
 use Rattle.writing.specs.Parted.{drafted}
-use Rattle.writing.specs.Walking.{rest_of, Walks}
+use Rattle.writing.specs.Walking.{Walks}
 use Rattle.writing.specs.Written.{fault_of}
 use Rattle.writing.proofs.Steps.{stood, fell}
-
--- An order frame
-
-module _ (p : Plan) (e : Entry) where
-  abbrev first : Rest
-  first = record { at = 2; bytes = entry_bytes e; met = [] }
-
-  by_entry : read_as p (bytes_of p (order e)) ≡ and_then (entries_as p 1 0 first) (ended (order (entry_in (entry_bytes e))))
-  by_entry = by_kind p (bytes_of p (order e)) (omega arith) refl 1 (inl refl) refl
-
-  pub order_fails : (f : FrameFault) → entries_as p 1 0 first ≡ Err f → read_as p (bytes_of p (order e)) ≡ Err f
-  order_fails f q = by_entry ∙ ap (λ z. and_then z (ended (order (entry_in (entry_bytes e))))) q
-
-  pub order_passes : (s : Rest) → entries_as p 1 0 first ≡ Ok s → s.bytes ≡ [] → length e.body ≡ 8 → read_as p (bytes_of p (order e)) ≡ Ok (order e)
-  order_passes s q none eight =
-      let all : take 8 e.body ≡ e.body = take_all 8 e.body (omega arith) in
-      by_entry ∙ through _ (ended (order (entry_in (entry_bytes e)))) s q
-      ∙ ap (λ z. cond (ltb 0 (length z)) (fault_at s.at cause.Length) (Ok (order (entry_in (entry_bytes e))))) none
-      ∙ (λ i. Ok (order (record { id = e.id; body = all i })))
-
-  pub order_checked : (w after : Walk) (r : Result (Unit {0}) FrameFault) → w.at ≡ 2 → w.ids.last ≡ 0 → Whole e →
-      Walks p (entries_as p 1 w.ids.last (rest_of w (entry_bytes e ++ []) [])) [] r after → Checks (read_as p (bytes_of p (order e))) (order e) r
-  order_checked w after r place last whole k =
-      let here : entries_as p 1 w.ids.last (rest_of w (entry_bytes e ++ []) []) ≡ entries_as p 1 0 first = λ i. entries_as p 1 (last i) (record { at = place i; bytes = append-nil (entry_bytes e) i; met = [] }) in
-      ends r (subst (λ z. Walks p z [] r after) here k)
-    where
-      ends : (r : Result (Unit {0}) FrameFault) → Walks p (entries_as p 1 0 first) [] r after → Checks (read_as p (bytes_of p (order e))) (order e) r
-      ends (Ok u) k = let one = stood p _ [] after k in order_passes one.rest one.is (ap (λ (z : Rest). z.bytes) one.here.rest) whole.eight
-      ends (Err f) k = order_fails f (fell p _ [] f after k)
 
 -- A token
 
@@ -59,7 +29,7 @@ pub parted_count : (cs : List ℕ) (es : List Entry) → length (parted cs es) �
 parted_count [] es = refl
 parted_count (c ∷ cs) es = ap suc (parted_count cs (drop c es))
 
-whole_parts : (cs : List ℕ) (es : List Entry) → AllByRecursion Whole es → AllByRecursion (AllByRecursion Whole) (parted cs es)
+pub whole_parts : (cs : List ℕ) (es : List Entry) → AllByRecursion Whole es → AllByRecursion (AllByRecursion Whole) (parted cs es)
 whole_parts [] es w = tt
 whole_parts (c ∷ cs) es w = (All-take Whole c es w, whole_parts cs (drop c es) (All-drop Whole c es w))
 
@@ -107,10 +77,10 @@ module _ (p : Plan) (d : Draft) (h : d.stamp < 2 ^ 32) where
     on : and_then (entries_as p (length d.proposal.now) 0 start) (decisions_as p (length (parted d.lengths.now d.entries.now))) ≡ decisions_as p (length d.lengths.now) s
     on = through _ (decisions_as p (length (parted d.lengths.now d.entries.now))) s q ∙ ap (λ z. decisions_as p z s) (parted_count d.lengths.now d.entries.now)
 
-    lists_fail : (e : FrameFault) → decisions_as p (length d.lengths.now) s ≡ Err e → lists_as p bs ≡ Err e
+    pub lists_fail : (e : FrameFault) → decisions_as p (length d.lengths.now) s ≡ Err e → lists_as p bs ≡ Err e
     lists_fail e r = ap (λ z. and_then z (ended (token (token_in bs)))) (on ∙ r)
 
-    lists_pass : (u : Rest) → decisions_as p (length d.lengths.now) s ≡ Ok u → u.bytes ≡ [] → AllByRecursion Whole d.proposal.now → AllByRecursion Whole d.entries.now → lists_as p bs ≡ Ok (token t)
+    pub lists_pass : (u : Rest) → decisions_as p (length d.lengths.now) s ≡ Ok u → u.bytes ≡ [] → AllByRecursion Whole d.proposal.now → AllByRecursion Whole d.entries.now → lists_as p bs ≡ Ok (token t)
     lists_pass u r none w v =
         through _ (ended (token (token_in bs))) u (on ∙ r)
         ∙ ap (λ z. cond (ltb 0 (length z)) (fault_at u.at cause.Length) (Ok (token (token_in bs)))) none
