@@ -5,7 +5,7 @@ ghost use Rattle.machines.specs.Orders.{order_in};
 ghost use Rattle.machines.specs.HeadRules.{head_reading, may_stand, after_slew, after_track, moved_by, after_run, after_stop, after_park, obeyed, head_after};
 
 use super::order::HeadOrder;
-use super::{Head, Mode};
+use super::{Head, Mode, RATE_LIMIT};
 use std::marker::Model;
 
 const MOST_TICKS: u32 = 10_000;
@@ -74,28 +74,33 @@ impl Standing {
     fn slew(self, ascension: i32, declination: i32) -> Option<Standing>
         ensures { result ≡ after_slew self ascension declination }
     {
-        Standing::new(Head {
+        let slewed = Head {
             mode: Mode::Stopped as u8,
             mark: ascension,
             counter: 0,
             declination,
             ..self.head
-        })
+        };
+        if !slewed.may_point() {
+            return None;
+        }
+        Some(Standing { head: slewed })
     }
 
     fn track(self, rate: i8) -> Option<Standing>
         ensures { result ≡ after_track self rate }
     {
-        if self.head.mode == Mode::Parked as u8 {
+        if self.head.mode == Mode::Parked as u8 || rate.unsigned_abs() > RATE_LIMIT {
             return None;
         }
-        Standing::new(Head {
+        let head = Head {
             mode: Mode::Tracking as u8,
             rate,
             mark: self.head.mark + self.head.counter,
             counter: 0,
             ..self.head
-        })
+        };
+        Some(Standing { head })
     }
 
     fn run(self, ticks: u32) -> Option<Standing>
@@ -104,7 +109,11 @@ impl Standing {
         if self.head.mode != Mode::Tracking as u8 || !(1..=MOST_TICKS).contains(&ticks) {
             return None;
         }
-        Standing::new(self.moved_by(ticks))
+        let moved = self.moved_by(ticks);
+        if !moved.may_point() {
+            return None;
+        }
+        Some(Standing { head: moved })
     }
 
     fn moved_by(self, ticks: u32) -> Head
@@ -123,10 +132,11 @@ impl Standing {
         if self.head.mode != Mode::Tracking as u8 {
             return None;
         }
-        Standing::new(Head {
+        let head = Head {
             mode: Mode::Stopped as u8,
             ..self.head
-        })
+        };
+        Some(Standing { head })
     }
 
     fn park(self) -> Option<Standing>

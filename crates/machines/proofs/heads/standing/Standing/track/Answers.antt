@@ -5,3 +5,6 @@ use Rattle.machines.proofs.heads.standing.Standing.track.Goals as goal
 
 pub returns : goal.returns
 returns c = grind (arith, nat_tests, to_z-of_z)
+
+pub invariant_of-result : goal.invariant_of-result
+invariant_of-result c = grind (arith, nat_tests, to_z-of_z)
