@@ -5,7 +5,8 @@ use Rattle.history.specs.Tokens.Created.{dummy, first}
 use Rattle.history.specs.Histories.{History, In, Free, empty, begun}
 use Rattle.history.specs.Laws.{Grows}
 use Rattle.history.proofs.Rounds.{created_up}
-use Rattle.history.proofs.Listed.{older, newest_or, none_in_nil, free_of, single_more}
+use Rattle.history.proofs.Listed.{older, none_in_nil, free_of, single_more}
+pub use Rattle.history.proofs.Listed.{newest_or}
 
 -- at the start there are two tokens
 pub in_begun : {E : Type 0} (s : ℕ) (t : Token E) → In begun s t → ((s ≡ 1) × (t ≡ empty 1)) ⊎ ((s ≡ 0) × (t ≡ empty 0))

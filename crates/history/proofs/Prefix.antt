@@ -38,8 +38,11 @@ module _ {A : Type 0} where
   pub flat_snoc : (ds : List (List A)) (d : List A) → flat (ds ++ d ∷ []) ≡ flat ds ++ d
   flat_snoc ds d = sym (flat_map_more (λ x. x) [] ds d)
 
+  pub flat_append : (ds es : List (List A)) → flat (ds ++ es) ≡ flat ds ++ flat es
+  flat_append = flat_map-append (λ d. d)
+
   pub begins_flat : (ds es : List (List A)) → Begins ds es → Begins (flat ds) (flat es)
-  begins_flat ds es b = (flat b.0, ap flat b.1 ∙ flat_map-append (λ d. d) ds b.0)
+  begins_flat ds es b = (flat b.0, ap flat b.1 ∙ flat_append ds b.0)
 
   pub agree_flat : (ds es : List (List A)) → Agree ds es → Agree (flat ds) (flat es)
   agree_flat ds es (inl b) = inl (begins_flat ds es b)

@@ -1,11 +1,12 @@
 -- Where each new proposal is clear, no token has an id twice.
-use Rattle.std.proofs.Common.{◌≡◌, ℕ, ◌+◌, ◌≤◌, List, [], ◌∷◌, ◌++◌, map, sym, ap, ◌∙◌, arith}
+use Rattle.std.proofs.Common.{◌≡◌, ℕ, ◌+◌, ◌≤◌, List, [], ◌∷◌, ◌++◌, map, sym, refl, ap, ◌∙◌, arith}
 use Rattle.std.specs.List.{flat_map}
-use Rattle.std.proofs.lemmas.List.{flat_map_more}
+use Rattle.std.proofs.lemmas.List.{flat_map_more, map-append}
+use Rattle.frames.specs.Contents.{Once}
 use Rattle.history.specs.Tokens.{Token, Relation, Empty, Step, Next, Created, Lawful}
 use Rattle.history.specs.Tokens.Step.{old, keep, fresh, decide}
 use Rattle.history.specs.Tokens.Created.{dummy, first, later}
-use Rattle.history.specs.Histories.{ids_in, Clear, Unrepeated}
+use Rattle.history.specs.Histories.{ids_in, flat, Clear, Unrepeated}
 use Rattle.history.proofs.Rounds.{Earlier, by_rounds}
 use Rattle.history.proofs.Counts.{count, count_append, once_fewer, fewer_once}
 
@@ -58,3 +59,15 @@ module _ {E : Type 0} (id : E → ℕ) where
           most = omega (arith, counted i t, by_rounds law (λ _. Most i) (most_on i) s t m);
           apart = λ h. absurd (omega arith);
         })
+
+-- a token that has no id twice has none twice in its decisions
+pub decided_once : {E : Type 0} (id : E → ℕ) (t : Token E) → Once [] (ids_in id t) → Once [] (flat_map (map id) t.decisions)
+decided_once id t o =
+    fewer_once [] (flat_map (map id) t.decisions) (λ i.
+    let h = once_fewer [] (ids_in id t) o i in
+    record { most = omega (arith, h.most, counted id i t); apart = λ l. absurd (omega arith) })
+
+-- the ids of the decisions, decision by decision, are those of their entries in a row
+pub ids_flat : {E : Type 0} (id : E → ℕ) (ds : List (List E)) → flat_map (map id) ds ≡ map id (flat ds)
+ids_flat id [] = refl
+ids_flat id (d ∷ ds) = rw (ids_flat id ds, ← map-append)

@@ -6,6 +6,7 @@ use Rattle.frames.specs.declared.FrameKind.{FrameKind}
 use Rattle.frames.specs.declared.FrameKind.TheVariants as kind
 use Rattle.frames.specs.declared.plan.Plan.{Plan}
 use Rattle.frames.specs.Contents.{Content}
+pub use Rattle.frames.specs.Contents.{Marks}
 use Rattle.frames.specs.Reading.{Rest, fault_at, read_as, order_as, token_as}
 use Rattle.reading.specs.Ids.{Met}
 use Rattle.reading.specs.declared.reader.Reader.{Reader}
