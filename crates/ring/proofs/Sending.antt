@@ -35,10 +35,11 @@ module _ (p : Plan) (i : ℕ) (r : BoxRecord) (k : KeepsRules p i r) (left : r.l
   few : length more ≤ room
   few = few_unordered p more (box_of r).log sent.lists
 
-  -- so the table has room for it
+  -- the count is one that a table can have
   pub fits : r.unordered.count ≤ room
   fits = leb-true _ _ (fitting r k.tables).unordered
 
+  -- so the table has room for it
   pub roomy : length (held r.unordered) < room
   roomy = let f = few in let one = length_inserted (next_entry (box_of r) body) (held r.unordered) in omega arith
 

@@ -20,7 +20,7 @@ pub(crate) fn check_order(plan: &Plan, entry: &Entry) -> Result<(), FrameFault>
 }
 
 /// Checks an entry that stands alone, by its id and its body. Its id is met first, so that of a walk's tests only the range
-/// is left, and no table of ids is made.
+/// is left, and no table of ids is made. The body is taken for the contract: of an array that is lent it is known what it holds.
 fn check_alone(plan: &Plan, id: u8, body: &[u8; 8]) -> Result<(), FrameFault>
     ensures { let e : AnEntry = record { id = id; body = body.now } in Checks (read_as plan.now (bytes_of plan.now (order e))) (order e) result }
 {
